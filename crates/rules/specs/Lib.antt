@@ -1,0 +1,15 @@
+pub mod Limits
+pub mod Choice
+pub mod Counting
+pub mod Table
+pub mod State
+pub mod Ceilings
+pub mod Waiting
+pub mod Start
+pub mod Events
+pub mod Run
+pub mod Memory
+pub mod WellFormed
+pub mod Demand3
+pub mod Examples
+pub mod laws

@@ -1,0 +1,19 @@
+-- What is proved of the definitions, each file over those before it.
+pub mod Choices
+pub mod Counts
+pub mod Tables
+pub mod Ceilings
+pub mod Order
+pub mod Well
+pub mod Accepted
+pub mod Kept
+pub mod Frames
+pub mod Clearing
+pub mod Invariant
+pub mod Enough
+pub mod Stretches
+pub mod OneEntry
+pub mod Demand
+pub mod Runs
+pub mod Facts
+pub mod Premises
