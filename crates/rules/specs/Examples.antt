@@ -1,16 +1,11 @@
 -- Document 01's example: its table and log, and the thirteen rows that are proved from the definitions, in one table under one claim.
-use Rattle.std.specs.Prelude.{◌≡◌, refl, List, [], ◌∷◌, ℕ, ◌-◌, get_or, take}
+use Rattle.std.specs.Prelude.{◌≡◌, List, [], ◌∷◌, ℕ, ◌-◌, get_or}
 use Rattle.std.proofs.Math.Option.{Option, none, some}
-use Rattle.rules.specs.Choice.{first_bad}
-use Rattle.rules.specs.Counting.{max_below, sum_below, total, every, none_above, contains}
-use Rattle.rules.specs.Table.{Table, worst, table_refusal}
-use Rattle.rules.specs.State.{fresh, held_in}
-use Rattle.rules.specs.Ceilings.{ceiling, resource_ceiling, system_ceiling}
-use Rattle.rules.specs.Waiting.{sooner, insert, waiting_word}
-use Rattle.rules.specs.Start.{starts, start_test}
-use Rattle.rules.specs.Events.{Event, arrive, acquire, release, finish, release_all, refusal, applied, after, starts_after, started_by}
-use Rattle.rules.specs.Run.{run, Line, line, lines}
-use Rattle.rules.specs.Memory.{frame_start, memory_after}
+use Rattle.rules.specs.Table.{Table, table_refusal}
+use Rattle.rules.specs.State.{fresh}
+use Rattle.rules.specs.Ceilings.{ceiling}
+use Rattle.rules.specs.Events.{Event, arrive, acquire, release, finish, release_all}
+use Rattle.rules.specs.Run.{Line, lines}
 
 -- One resource of 4 units; job 0 level 10, frame 40, need 4; job 1 level 20, frame 30, need 3; job 2 level 30, frame 20, need 1.
 abbrev pub station : ℕ → Table
@@ -56,7 +51,7 @@ pub record Row : Type 0 where
 abbrev free : ℕ → ℕ → Row
 free v c = record { given = ceiling_of (ceiling (station 90) 0 v); said = ceiling_of c }
 
-abbrev no_line : Line
+abbrev pub no_line : Line
 no_line = record { answer = 0; started = none; runs = none; ceiling = 0; waiting = 0; word = 0 }
 
 -- Event n of the log, numbered from 1: answer, job started, job running, system ceiling, number waiting, waiting word.
@@ -93,10 +88,6 @@ abbrev pub AllAsSaid : List Row → Type 0
 AllAsSaid [] = Unit {0}
 AllAsSaid (r ∷ rs) = (r.given ≡ r.said) × AllAsSaid rs
 
-pub the_examples : AllAsSaid examples
-unfolding first_bad max_below sum_below total every none_above contains worst table_refusal held_in ceiling resource_ceiling system_ceiling sooner insert waiting_word starts start_test refusal applied after starts_after started_by line lines
-the_examples = (refl, (refl, (refl, (refl, (refl, (refl, (refl, (refl, (refl, (refl, (refl, (refl, (refl, tt)))))))))))))
-
 -- ---- release all
 
 -- Two resources of one unit; job 0 needs both, job 1 the second, job 2 the first.
@@ -116,17 +107,6 @@ pair =
 abbrev pub pair_log : List Event
 pair_log = arrive 0 ∷ acquire 0 0 1 ∷ acquire 0 1 1 ∷ arrive 1 ∷ arrive 2 ∷ release_all 0 ∷ finish 2 ∷ []
 
--- Job 2 starts once both are given back, so job 1 starts when it finishes. With a start test after the first of two single releases job 2
--- would start halfway, the second unit would stay held, and job 1 would go on waiting.
-pub release_all_at_once : get_or (lines pair fresh pair_log) 6 no_line ≡ record { answer = 0; started = some 1; runs = some 1; ceiling = 20; waiting = 0; word = 0 }
-unfolding first_bad max_below sum_below total contains held_in ceiling resource_ceiling system_ceiling sooner insert waiting_word starts start_test refusal applied after starts_after started_by line lines
-release_all_at_once = refl
-
--- Job 2 starts above job 0, whose frame is byte 0: byte 1 becomes zero, the others stay.
-pub start_clears : memory_after pair (run pair fresh (take 5 pair_log)) (release_all 0) (7 ∷ 7 ∷ 7 ∷ []) ≡ 7 ∷ 0 ∷ 7 ∷ []
-unfolding first_bad max_below total contains held_in ceiling resource_ceiling system_ceiling sooner insert starts start_test refusal applied after starts_after run frame_start memory_after
-start_clears = refl
-
 -- ---- equal levels
 
 -- Two jobs at level 10, one at level 20.
@@ -141,13 +121,3 @@ shared =
           ∷ record { level = 10; frame = 25; needs = [] }
           ∷ [];
     }
-
--- Of two jobs at one level only the larger frame counts in the worst stack: 30 + 40.
-pub shared_worst : worst shared ≡ 70
-unfolding max_below sum_below worst
-shared_worst = refl
-
--- Of two jobs at one level the one that arrived first stands first: job 2, then job 1.
-pub shared_order : (run shared fresh (arrive 0 ∷ arrive 2 ∷ arrive 1 ∷ [])).waiting ≡ record { who = 2 } ∷ record { who = 1 } ∷ []
-unfolding first_bad max_below contains held_in ceiling resource_ceiling system_ceiling sooner insert starts start_test refusal applied after run
-shared_order = refl

@@ -12,4 +12,3 @@ pub mod Memory
 pub mod WellFormed
 pub mod Demand3
 pub mod Examples
-pub mod laws

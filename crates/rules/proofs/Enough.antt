@@ -8,12 +8,12 @@ use Rattle.rules.specs.State.{Entry, Started, State, put, level_at, is_running, 
 use Rattle.rules.specs.Ceilings.{resource_ceiling, system_ceiling}
 use Rattle.rules.specs.Events.{Event, arrive, acquire, release, finish, release_all, take_checks, checks, refusal}
 use Rattle.rules.specs.Run.{moment}
-use Rattle.rules.specs.laws.Choices.{Stop, stopped}
-use Rattle.rules.specs.laws.Ceilings.{resource_ceiling_zero}
-use Rattle.rules.specs.laws.Tables.{Good, good_table}
-use Rattle.rules.specs.laws.Order.{starts_is}
-use Rattle.rules.specs.laws.Well.{live_all}
-use Rattle.rules.specs.laws.Invariant.{Pre, Inv, spare, inv_moment}
+use Rattle.rules.proofs.Choices.{Stop, stopped}
+use Rattle.rules.proofs.Ceilings.{resource_ceiling_zero}
+use Rattle.rules.proofs.Tables.{Good, good_table}
+use Rattle.rules.proofs.Order.{starts_is}
+use Rattle.rules.proofs.Well.{live_all}
+use Rattle.rules.proofs.Invariant.{Pre, Inv, spare, inv_moment}
 
 -- ---- (a)
 

@@ -8,10 +8,10 @@ use Rattle.rules.specs.Waiting.{sooner}
 use Rattle.rules.specs.Events.{Event}
 use Rattle.rules.specs.Run.{moment}
 use Rattle.rules.specs.Demand3.{lower_runs, WaitsThrough, OneHolder, Demand3}
-use Rattle.rules.specs.laws.Order.{level_sooner}
-use Rattle.rules.specs.laws.Enough.{enough, never_idle}
-use Rattle.rules.specs.laws.Stretches.{Waits, Top, OneStretch, one_stretch}
-use Rattle.rules.specs.laws.OneEntry.{one_entry, find}
+use Rattle.rules.proofs.Order.{level_sooner}
+use Rattle.rules.proofs.Enough.{enough, never_idle}
+use Rattle.rules.proofs.Stretches.{Waits, Top, OneStretch, one_stretch}
+use Rattle.rules.proofs.OneEntry.{one_entry, find}
 
 -- who runs where a job of lower level than that of the waiting entry w runs
 record Runner (t : Table) (fs : List Started) (w : Entry) : Type 0 where

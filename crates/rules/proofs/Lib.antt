@@ -17,3 +17,4 @@ pub mod Demand
 pub mod Runs
 pub mod Facts
 pub mod Premises
+pub mod Examples

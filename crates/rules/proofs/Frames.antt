@@ -13,12 +13,12 @@ use Rattle.rules.specs.Events.{Event}
 use Rattle.rules.specs.Run.{moment}
 use Rattle.rules.specs.Memory.{frame_start}
 use Rattle.rules.specs.WellFormed.{levels_rise}
-use Rattle.rules.specs.laws.Choices.{both_parts}
-use Rattle.rules.specs.laws.Counts.{le_max_below, sum_below_mono}
-use Rattle.rules.specs.laws.Tables.{good_table}
-use Rattle.rules.specs.laws.Order.{Live}
-use Rattle.rules.specs.laws.Well.{Well, All, live_all}
-use Rattle.rules.specs.laws.Kept.{well_moment}
+use Rattle.rules.proofs.Choices.{both_parts}
+use Rattle.rules.proofs.Counts.{le_max_below, sum_below_mono}
+use Rattle.rules.proofs.Tables.{good_table}
+use Rattle.rules.proofs.Order.{Live}
+use Rattle.rules.proofs.Well.{Well, All, live_all}
+use Rattle.rules.proofs.Kept.{well_moment}
 
 -- a job's frame is no larger than the largest at its level
 frame_largest : (t : Table) (j : ℕ) → j < job_count t → room_of t j ≤ largest_at t (level_of t j)

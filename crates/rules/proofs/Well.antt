@@ -5,9 +5,9 @@ use Rattle.rules.specs.Counting.{every}
 use Rattle.rules.specs.Table.{Table, table_refusal, job_count, resource_count, units_of}
 use Rattle.rules.specs.State.{Entry, Started, State, started_jobs, waiting_jobs, held_in}
 use Rattle.rules.specs.WellFormed.{writable, all_listed, none_twice, levels_rise, in_order, within_needs, within_units, well_kept, well_formed}
-use Rattle.rules.specs.laws.Choices.{both_parts}
-use Rattle.rules.specs.laws.Counts.{every_below_at}
-use Rattle.rules.specs.laws.Order.{Live}
+use Rattle.rules.proofs.Choices.{both_parts}
+use Rattle.rules.proofs.Counts.{every_below_at}
+use Rattle.rules.proofs.Order.{Live}
 
 -- the seven parts
 pub record Well (t : Table) (s : State) : Type 0 where

@@ -7,8 +7,8 @@ use Rattle.rules.specs.Limits.{max_jobs, max_resources, max_units, max_level, ma
 use Rattle.rules.specs.Counting.{within, every, none_above}
 use Rattle.rules.specs.Table.{Job, Table, no_job, job_of, job_count, resource_count, level_of, need_of, units_of, frame_of, worst}
 use Rattle.rules.specs.Table.{counts_good, job_good, values_good, stack_good, table_checks, table_refusal}
-use Rattle.rules.specs.laws.Choices.{by_test, both_parts, stopped}
-use Rattle.rules.specs.laws.Counts.{every_at, none_above_at, none_above-length}
+use Rattle.rules.proofs.Choices.{by_test, both_parts, stopped}
+use Rattle.rules.proofs.Counts.{every_at, none_above_at, none_above-length}
 
 pub record Good (t : Table) : Type 0 where
   pub few_jobs : job_count t ≤ max_jobs

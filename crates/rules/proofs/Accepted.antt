@@ -8,11 +8,11 @@ use Rattle.rules.specs.Table.{Table, resource_count, job_of, need_of, units_of}
 use Rattle.rules.specs.State.{Entry, Started, State, put, active_jobs, is_running, running_held, nothing_held, held_in, free_in}
 use Rattle.rules.specs.Events.{Event, arrive, acquire, release, finish, release_all, take_checks, checks, refusal}
 use Rattle.rules.specs.Events.{Effect, enter, hold, leave, take, give, effect, is_tested}
-use Rattle.rules.specs.laws.Choices.{both_parts, Stop, stopped}
-use Rattle.rules.specs.laws.Counts.{at_set, none_above_at, none_above-set, none_above_zeros}
-use Rattle.rules.specs.laws.Tables.{Good, good_table}
-use Rattle.rules.specs.laws.Order.{Live}
-use Rattle.rules.specs.laws.Well.{Well, Everyone, live_all, held_units}
+use Rattle.rules.proofs.Choices.{both_parts, Stop, stopped}
+use Rattle.rules.proofs.Counts.{at_set, none_above_at, none_above-set, none_above_zeros}
+use Rattle.rules.proofs.Tables.{Good, good_table}
+use Rattle.rules.proofs.Order.{Live}
+use Rattle.rules.proofs.Well.{Well, Everyone, live_all, held_units}
 
 -- ---- what is asked of an effect
 

@@ -14,7 +14,7 @@ use Rattle.rules.specs.Run.{moment}
 use Rattle.rules.specs.WellFormed.{levels_rise, in_order, well_formed}
 use Rattle.rules.specs.Demand3.{WaitsThrough, lower_runs, OneHolder}
 use Rattle.rules.specs.Examples.{station, log}
-use Rattle.rules.specs.laws.Demand.{demand_3}
+use Rattle.rules.proofs.Demand.{demand_3}
 
 -- document 01's table could be written
 pub station_written : table_refusal (station 90) ≡ 0

@@ -6,9 +6,9 @@ use Rattle.rules.specs.Counting.{max_below}
 use Rattle.rules.specs.Table.{Table, job_count, resource_count, level_of, need_of, units_of}
 use Rattle.rules.specs.State.{Started, held_in, free_in}
 use Rattle.rules.specs.Ceilings.{ceiling, resource_ceiling}
-use Rattle.rules.specs.laws.Choices.{pick_case, by_test}
-use Rattle.rules.specs.laws.Counts.{max_below_le, le_max_below, max_below_mono}
-use Rattle.rules.specs.laws.Tables.{Good}
+use Rattle.rules.proofs.Choices.{pick_case, by_test}
+use Rattle.rules.proofs.Counts.{max_below_le, le_max_below, max_below_mono}
+use Rattle.rules.proofs.Tables.{Good}
 
 -- fewer free: no lower ceiling
 pub ceiling_mono : (t : Table) (r v w : ℕ) → w ≤ v → ceiling t r v ≤ ceiling t r w

@@ -14,13 +14,13 @@ use Rattle.rules.specs.Waiting.{sooner, insert}
 use Rattle.rules.specs.Start.{starts, newly_started, start_test}
 use Rattle.rules.specs.Events.{Event, Effect, enter, hold, leave, effect, with_held, applied, is_tested, refusal, after}
 use Rattle.rules.specs.Run.{moment}
-use Rattle.rules.specs.laws.Choices.{pick_case, by_test, both_parts}
-use Rattle.rules.specs.laws.Tables.{Good, good_table}
-use Rattle.rules.specs.laws.Ceilings.{need_le, le_resource_ceiling, resource_ceiling_mono}
-use Rattle.rules.specs.laws.Order.{Live, sooner_asym, sooner_behind, sooner_level, sooner_top, starts_is}
-use Rattle.rules.specs.laws.Well.{Well, All, all_map, all_zip}
-use Rattle.rules.specs.laws.Accepted.{Fair, fair}
-use Rattle.rules.specs.laws.Kept.{well_applied, well_start, well_fresh}
+use Rattle.rules.proofs.Choices.{pick_case, by_test, both_parts}
+use Rattle.rules.proofs.Tables.{Good, good_table}
+use Rattle.rules.proofs.Ceilings.{need_le, le_resource_ceiling, resource_ceiling_mono}
+use Rattle.rules.proofs.Order.{Live, sooner_asym, sooner_behind, sooner_level, sooner_top, starts_is}
+use Rattle.rules.proofs.Well.{Well, All, all_map, all_zip}
+use Rattle.rules.proofs.Accepted.{Fair, fair}
+use Rattle.rules.proofs.Kept.{well_applied, well_start, well_fresh}
 
 -- ---- the invariant
 

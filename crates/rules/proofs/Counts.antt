@@ -4,7 +4,7 @@ use Rattle.std.proofs.Common.{sym, ap, ◌∙◌, subst, zero-le, le_trans, le_r
 use Rattle.std.proofs.lemmas.Bool.{false≢true, eqb-false, not-true}
 use Rattle.std.proofs.Math.Nat.{le-max_left, le-max_right, max-le}
 use Rattle.rules.specs.Counting.{max_below, sum_below, every_below, total, every, none_above, contains, each_once}
-use Rattle.rules.specs.laws.Choices.{by_test, both, both_parts}
+use Rattle.rules.proofs.Choices.{by_test, both, both_parts}
 
 -- ---- the largest
 

@@ -10,8 +10,8 @@ use Rattle.rules.specs.Start.{starts, start_test}
 use Rattle.rules.specs.Events.{Event, acquire, release_all, checks, with_held, applied, refusal, after, starts_after, started_by}
 use Rattle.rules.specs.Memory.{memory_after}
 use Rattle.rules.specs.Demand3.{units_held}
-use Rattle.rules.specs.laws.Choices.{pick_case, stopped}
-use Rattle.rules.specs.laws.Counts.{total_zeros}
+use Rattle.rules.proofs.Choices.{pick_case, stopped}
+use Rattle.rules.proofs.Counts.{total_zeros}
 
 -- A refused event leaves the state and the stack memory as they were.
 pub refused_state : (t : Table) (s : State) (e : Event) → refusal t s e ≢ 0 → after t s e ≡ s

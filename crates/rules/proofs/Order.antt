@@ -10,8 +10,8 @@ use Rattle.rules.specs.State.{Entry, Started, State, level_at}
 use Rattle.rules.specs.Ceilings.{resource_ceiling, system_ceiling}
 use Rattle.rules.specs.Waiting.{sooner}
 use Rattle.rules.specs.Start.{starts}
-use Rattle.rules.specs.laws.Choices.{by_test}
-use Rattle.rules.specs.laws.Tables.{Good}
+use Rattle.rules.proofs.Choices.{by_test}
+use Rattle.rules.proofs.Tables.{Good}
 
 -- what every active entry keeps, for the order to be one
 pub record LiveAt (t : Table) (e : Entry) : Type 0 where

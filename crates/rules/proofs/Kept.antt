@@ -12,12 +12,12 @@ use Rattle.rules.specs.Start.{starts, newly_started, start_test}
 use Rattle.rules.specs.Events.{Event, Effect, enter, hold, leave, effect, applied, is_tested, refusal, after}
 use Rattle.rules.specs.Run.{moment}
 use Rattle.rules.specs.WellFormed.{levels_rise, next_behind, in_order, within_needs, within_units, well_formed}
-use Rattle.rules.specs.laws.Choices.{pick_case, both, both_parts}
-use Rattle.rules.specs.laws.Counts.{every_below_make, every_move, none_above_zeros, once_move}
-use Rattle.rules.specs.laws.Tables.{Good, good_table}
-use Rattle.rules.specs.laws.Order.{Live, sooner_asym, sooner_top, starts_is}
-use Rattle.rules.specs.laws.Well.{Well, well_parts, well_formed_lem, All, live_all, held_units}
-use Rattle.rules.specs.laws.Accepted.{Fair, fair}
+use Rattle.rules.proofs.Choices.{pick_case, both, both_parts}
+use Rattle.rules.proofs.Counts.{every_below_make, every_move, none_above_zeros, once_move}
+use Rattle.rules.proofs.Tables.{Good, good_table}
+use Rattle.rules.proofs.Order.{Live, sooner_asym, sooner_top, starts_is}
+use Rattle.rules.proofs.Well.{Well, well_parts, well_formed_lem, All, live_all, held_units}
+use Rattle.rules.proofs.Accepted.{Fair, fair}
 
 -- ---- a job comes in
 

@@ -21,14 +21,14 @@ use Rattle.rules.specs.Start.{starts, newly_started, with_start, start_test}
 use Rattle.rules.specs.Events.{Event, Effect, enter, hold, leave, effect, applied, change, is_tested, refusal, after, starts_after, started_by}
 use Rattle.rules.specs.Run.{moment}
 use Rattle.rules.specs.Demand3.{is_job, activation, units_held, Stretch}
-use Rattle.rules.specs.laws.Choices.{pick_case, by_test}
-use Rattle.rules.specs.laws.Counts.{total_at, total_zeros}
-use Rattle.rules.specs.laws.Tables.{Good, good_table}
-use Rattle.rules.specs.laws.Ceilings.{resource_ceiling_mono}
-use Rattle.rules.specs.laws.Order.{Live, sooner_behind, starts_is}
-use Rattle.rules.specs.laws.Well.{All, live_all}
-use Rattle.rules.specs.laws.Accepted.{Fair, fair}
-use Rattle.rules.specs.laws.Invariant.{Sound, Falling, Pre, Inv, pre_applied, inv_moment}
+use Rattle.rules.proofs.Choices.{pick_case, by_test}
+use Rattle.rules.proofs.Counts.{total_at, total_zeros}
+use Rattle.rules.proofs.Tables.{Good, good_table}
+use Rattle.rules.proofs.Ceilings.{resource_ceiling_mono}
+use Rattle.rules.proofs.Order.{Live, sooner_behind, starts_is}
+use Rattle.rules.proofs.Well.{All, live_all}
+use Rattle.rules.proofs.Accepted.{Fair, fair}
+use Rattle.rules.proofs.Invariant.{Sound, Falling, Pre, Inv, pre_applied, inv_moment}
 
 -- ---- who waits and who runs, by entries
 

@@ -11,12 +11,12 @@ use Rattle.rules.specs.Events.{Event, Effect, enter, hold, leave, effect, applie
 use Rattle.rules.specs.Run.{moment}
 use Rattle.rules.specs.WellFormed.{none_twice}
 use Rattle.rules.specs.Demand3.{is_waiting, WaitsThrough}
-use Rattle.rules.specs.laws.Choices.{pick_case, by_test, either_part, neither_parts}
-use Rattle.rules.specs.laws.Counts.{contains-append, once_move, once_first}
-use Rattle.rules.specs.laws.Well.{Well}
-use Rattle.rules.specs.laws.Accepted.{fair}
-use Rattle.rules.specs.laws.Kept.{well_applied, well_moment}
-use Rattle.rules.specs.laws.Stretches.{Among, Waits}
+use Rattle.rules.proofs.Choices.{pick_case, by_test, either_part, neither_parts}
+use Rattle.rules.proofs.Counts.{contains-append, once_move, once_first}
+use Rattle.rules.proofs.Well.{Well}
+use Rattle.rules.proofs.Accepted.{fair}
+use Rattle.rules.proofs.Kept.{well_applied, well_moment}
+use Rattle.rules.proofs.Stretches.{Among, Waits}
 
 -- ---- what waits and whose job still waits after an event, waits still
 
