@@ -1,5 +1,5 @@
 -- The table that the arrays hold, and the arrays that hold a table: entries past a count are zero.
-use Rattle.std.specs.Prelude.{◌≡◌, List, [], ◌∷◌, ◌++◌, map, ℕ, ◌-◌, ◌≤◌, ◌<◌, length, get_or, take, replicate}
+use Rattle.std.specs.Prelude.{◌≡◌, List, [], ◌++◌, map, ℕ, ◌-◌, ◌≤◌, ◌<◌, length, get_or, take, replicate}
 use Rattle.rules.specs.Limits.{max_jobs, max_resources, max_level, max_bytes}
 use Rattle.rules.specs.Table as R
 use Rattle.table.specs.declared.Job.{Job}

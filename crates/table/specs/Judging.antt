@@ -1,6 +1,6 @@
 -- Document 01: the judging of a table that is held in arrays. Counts out of range 2, then 4 (entries past a count that are not zero
 -- included), then 5.
-use Rattle.std.specs.Prelude.{Bool, not, ◌&&◌, List, [], ◌∷◌, ℕ, zero, suc, take, drop, eqb}
+use Rattle.std.specs.Prelude.{Bool, not, ◌&&◌, [], ◌∷◌, ℕ, zero, suc, take, drop, eqb}
 use Rattle.rules.specs.Choice.{refuse, first_bad}
 use Rattle.rules.specs.Counting.{every}
 use Rattle.rules.specs.Table.{counts_good, values_good, stack_good, table_checks, worst}

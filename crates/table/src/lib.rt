@@ -1,4 +1,6 @@
 // The job table of a station as the programs hold it, the refusals in words, and the judging of a table.
+#![tactic(auto)]
+
 ghost use Rattle.std.specs.Prelude.{◌≡◌, ◌≤◌};
 ghost use Rattle.rules.specs.Table.{worst};
 ghost use Rattle.table.specs.Refusals.{number_of};
@@ -8,14 +10,14 @@ ghost use Rattle.table.specs.Judging.{table_judged, judged_number, worst_said, w
 use rules::{JOBS, RESOURCES, UNITS};
 
 // A job's level and a job's number are both one byte, and neither is ever passed for the other.
-#[derive(Drop)]
+#[derive(Clone, Copy)]
 pub struct Level(pub u8);
 
-#[derive(Drop)]
+#[derive(Clone, Copy)]
 pub struct JobNo(pub u8);
 
 // A job: its level, its frame (stack bytes), and its need of each resource.
-#[derive(Drop)]
+#[derive(Clone, Copy)]
 pub struct Job {
     pub level: Level,
     pub frame: u16,
@@ -33,7 +35,7 @@ pub struct Table {
 }
 
 // Why something is refused: document 01's table of refusal numbers, in words.
-#[derive(Drop)]
+#[derive(Clone, Copy)]
 pub enum Refusal {
     InputEnds,
     WrongTagOrCount,
@@ -56,14 +58,14 @@ pub enum Refusal {
 }
 
 // How a table to be written is judged.
-#[derive(Drop)]
+#[derive(Clone, Copy)]
 pub enum Judged {
     Good,
     Bad(Refusal),
 }
 
 // What asking a table's worst stack answers.
-#[derive(Drop)]
+#[derive(Clone, Copy)]
 pub enum Worst {
     Sum(u32),
     Refused(Refusal),

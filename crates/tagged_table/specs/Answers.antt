@@ -1,9 +1,5 @@
 -- What the code's answers say, in the paper's numbers and values, and what they are to be.
-use mathlib.Core.Path.{◌≡◌}
-use mathlib.Core.List.{List, [], ◌++◌}
-use Prim.Native.Nat.{ℕ, zero, suc}
-use lib.ListN.{length, drop}
-use lib.Dec.{ltb}
+use Rattle.std.specs.Prelude.{◌≡◌, List, [], ◌++◌, ℕ, zero, suc, length, drop, ltb}
 use Rattle.rules.specs.Choice.{pick}
 use Rattle.rules.specs.Table as R
 use Rattle.table.specs.Refusals.{number_of}

@@ -1,9 +1,5 @@
 -- Document 01, "The tagged form": a table, its fields in order, how many of each, their lengths and ranges; read and written.
-use mathlib.Core.Bool.{Bool, true, false, ◌&&◌}
-use mathlib.Core.List.{List, [], ◌∷◌, ◌++◌}
-use Prim.Native.Nat.{ℕ, zero, suc, ◌+◌, ◌*◌}
-use lib.ListN.{length, get_or, drop}
-use lib.Dec.{ltb, eqb}
+use Rattle.std.specs.Prelude.{Bool, true, false, ◌&&◌, List, [], ◌∷◌, ◌++◌, ℕ, zero, suc, ◌+◌, ◌*◌, length, get_or, drop, ltb, eqb}
 use Rattle.rules.specs.Limits.{max_jobs, max_resources, max_units, max_bytes}
 use Rattle.rules.specs.Choice.{pick}
 use Rattle.rules.specs.Counting.{within}

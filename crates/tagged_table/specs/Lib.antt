@@ -1,4 +1,3 @@
 pub mod Form
 pub mod Answers
 pub mod Examples
-pub mod laws

@@ -1,6 +1,6 @@
 // A station's table in its tagged form, read and written.
-ghost use mathlib.Core.Path.{◌≡◌};
-ghost use lib.ListN.{length};
+#![tactic(auto)]
+
 ghost use Rattle.tagged_table.specs.Form.{table_reading};
 ghost use Rattle.tagged_table.specs.Answers.{Answers};
 

@@ -1,1 +1,0 @@
--- What is proved of the tagged form of a table, each file over those before it.
