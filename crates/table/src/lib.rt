@@ -1,13 +1,11 @@
-// The job table of a station as the programs hold it, the refusals in words, and the judging of a table.
+// The job table of a station as the programs hold it, and the refusals in words.
 #![tactic(auto)]
 
-ghost use Rattle.std.specs.Prelude.{◌≡◌, ◌≤◌};
-ghost use Rattle.rules.specs.Table.{worst};
+ghost use Rattle.std.specs.Prelude.{◌≡◌};
 ghost use Rattle.table.specs.Refusals.{number_of};
-ghost use Rattle.table.specs.Arrays.{table_of, job_of_zeros, table_of_zeros, Shaped};
-ghost use Rattle.table.specs.Judging.{table_judged, judged_number, worst_said, worst_answer};
+ghost use Rattle.table.specs.Arrays.{job_of_zeros, table_of_zeros, Shaped};
 
-use rules::{JOBS, RESOURCES, UNITS};
+use rules::{JOBS, RESOURCES};
 
 // A job's level and a job's number are both one byte, and neither is ever passed for the other.
 #[derive(Clone, Copy)]

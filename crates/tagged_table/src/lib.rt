@@ -1,8 +1,5 @@
-// A station's table in its tagged form, read and written.
+// What reading and writing a station's table in its tagged form answer.
 #![tactic(auto)]
-
-ghost use Rattle.tagged_table.specs.Form.{table_reading};
-ghost use Rattle.tagged_table.specs.Answers.{Answers};
 
 use table::{Refusal, Table};
 
