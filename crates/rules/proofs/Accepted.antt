@@ -1,14 +1,16 @@
 -- What an accepted event of a well-formed state does is fair: this file alone of the proof names the events, and the rest goes by effects.
-use Rattle.std.specs.Prelude.{◌≡◌, refl, Bool, true, false, not, List, [], ◌∷◌, ℕ, ◌+◌, ◌-◌, ◌≤◌, ◌<◌, get_or, set, leb}
+use Rattle.std.specs.Prelude.{◌≡◌, refl, Bool, true, false, not, List, [], ◌∷◌, ℕ, ◌+◌, ◌-◌, ◌≤◌, ◌<◌, get_or, set, leb, eqb}
 use Rattle.std.proofs.Common.{true≢false, le_refl, arith, ltb-false, leb-false, eqb-true}
+use Rattle.std.proofs.lemmas.Bool.{not-false, and_parts}
 use Rattle.std.proofs.lemmas.List.{get_or-replicate}
-use Rattle.std.proofs.lemmas.Bool.{not-false}
+use Rattle.rules.specs.Choice.{pick}
 use Rattle.rules.specs.Counting.{total, every, none_above, contains}
 use Rattle.rules.specs.Table.{Table, resource_count, job_of, need_of, units_of}
 use Rattle.rules.specs.State.{Entry, Started, State, put, active_jobs, is_running, running_held, nothing_held, held_in, free_in}
+use Rattle.rules.specs.Start.{start_test}
 use Rattle.rules.specs.Events.{Event, arrive, acquire, release, finish, release_all, take_checks, checks, refusal}
-use Rattle.rules.specs.Events.{Effect, enter, hold, leave, take, give, effect, is_tested}
-use Rattle.rules.proofs.Choices.{both_parts, Stop, stopped}
+use Rattle.rules.specs.Events.{Effect, enter, hold, leave, take, give, effect, change, is_tested, after}
+use Rattle.rules.proofs.Choices.{pick_case, Stop, stopped}
 use Rattle.rules.proofs.Counts.{at_set, none_above_at, none_above-set, none_above_zeros}
 use Rattle.rules.proofs.Tables.{Good, good_table}
 use Rattle.rules.proofs.Order.{Live}
@@ -43,7 +45,7 @@ Fair t s b leave = (total (running_held s.stack) ≡ 0) × (b ≡ true)
 module _ (t : Table) (s : State) (f : Started) (fs : List Started) (ks : List Entry) (w : Well t (put s (f ∷ fs) ks)) where
   top_needs : none_above (job_of t f.entry.who).needs f.held ≡ true
   unfolding every
-  top_needs = (both_parts (none_above (job_of t f.entry.who).needs f.held) (every (λ f. none_above (job_of t f.entry.who).needs f.held) fs) w.needs).0
+  top_needs = (and_parts _ _ w.needs).0
 
   top_units : (r : ℕ) → r < resource_count t → get_or f.held r 0 + held_in fs r ≤ units_of t r
   unfolding held_in
@@ -106,3 +108,10 @@ fair t s fs ks w (finish j) h =
     let l : total (running_held fs) ≤ 0 = ltb-false _ _ (stopped 0 _ h).1.1.0 in
     (omega arith, refl)
 fair t s fs ks w (release_all j) h = all_fair t s fs ks w
+
+-- ---- the state after an event, accepted or refused
+
+pub after_case : (P : State → Type 0) (t : Table) (s : State) (e : Event)
+    → (refusal t s e ≡ 0 → P (pick (is_tested e) (start_test t (change t s e)) (change t s e))) → P s → P (after t s e)
+unfolding after
+after_case P t s e h k = pick_case P (eqb (refusal t s e) 0) _ _ (λ q. h (eqb-true _ _ q)) (λ q. k)

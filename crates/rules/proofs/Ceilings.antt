@@ -1,44 +1,28 @@
 -- Laws of ceilings: fewer free units never lower one, and a job whose level is above it can have its whole need.
-use Rattle.std.specs.Prelude.{◌≡◌, Bool, List, [], ℕ, ◌≤◌, ◌<◌, ltb}
-use Rattle.std.proofs.Common.{ap, zero-le, le_refl, arith, ltb-true, ltb-false, lt-ltb}
+use Rattle.std.specs.Prelude.{List, [], ℕ, ◌≤◌, ◌<◌, ltb}
+use Rattle.std.proofs.Common.{arith}
+use Rattle.std.proofs.lemmas.Bool.Decides.{nat_tests}
 use Rattle.rules.specs.Choice.{pick}
-use Rattle.rules.specs.Counting.{max_below}
 use Rattle.rules.specs.Table.{Table, job_count, resource_count, level_of, need_of, units_of}
 use Rattle.rules.specs.State.{Started, held_in, free_in}
 use Rattle.rules.specs.Ceilings.{ceiling, resource_ceiling}
-use Rattle.rules.proofs.Choices.{pick_case, by_test}
 use Rattle.rules.proofs.Counts.{max_below_le, le_max_below, max_below_mono}
 use Rattle.rules.proofs.Tables.{Good}
 
 -- fewer free: no lower ceiling
 pub ceiling_mono : (t : Table) (r v w : ℕ) → w ≤ v → ceiling t r v ≤ ceiling t r w
 unfolding ceiling
-ceiling_mono t r v w h =
-    max_below_mono (job_count t) _ _ (λ j l.
-    pick_case (λ (x : ℕ). x ≤ pick (ltb w (need_of t j r)) (level_of t j) 0) (ltb v (need_of t j r)) _ _
-    (λ e. rw (lt-ltb w (need_of t j r) (omega (arith, ltb-true v (need_of t j r) e))) (le_refl _))
-    (λ e. zero-le))
+ceiling_mono t r v w h = max_below_mono (job_count t) _ _ (λ j l. grind (arith, nat_tests))
 
 -- a job above the ceiling can have its whole need
 pub need_le : (t : Table) (r v j : ℕ) → j < job_count t → ceiling t r v < level_of t j → need_of t j r ≤ v
 unfolding ceiling
-need_le t r v j l h =
-    by_test (ltb v (need_of t j r))
-    (λ e.
-    let f : ℕ → ℕ = λ k. pick (ltb v (need_of t k r)) (level_of t k) 0 in
-    let m : f j ≤ max_below (job_count t) f = le_max_below (job_count t) f j l in
-    let q : f j ≡ level_of t j = ap (λ (b : Bool). pick b (level_of t j) 0) e in
-    absurd (omega (arith, h, m, q)))
-    (λ e. ltb-false v (need_of t j r) e)
+need_le t r v j l h = grind (arith, nat_tests, le_max_below (job_count t) (λ k. pick (ltb v (need_of t k r)) (level_of t k) 0) j l)
 
 -- with all units free it is 0
 pub ceiling_zero : (t : Table) → Good t → (r v : ℕ) → units_of t r ≤ v → ceiling t r v ≤ 0
 unfolding ceiling
-ceiling_zero t g r v h =
-    max_below_le (job_count t) _ 0 (λ j l.
-    pick_case (λ (x : ℕ). x ≤ 0) (ltb v (need_of t j r)) _ _
-    (λ e. absurd (omega (arith, ltb-true v (need_of t j r) e, g.fits j r, h)))
-    (λ e. zero-le))
+ceiling_zero t g r v h = max_below_le (job_count t) _ 0 (λ j l. grind (arith, nat_tests, g.fits j r))
 
 pub le_resource_ceiling : (t : Table) (fs : List Started) (r : ℕ) → r < resource_count t → ceiling t r (free_in t fs r) ≤ resource_ceiling t fs
 unfolding resource_ceiling

@@ -1,33 +1,12 @@
 -- Laws of choices: a property of a choice by its two cases, and what is known where the first bad test has a certain number.
-use Rattle.std.specs.Prelude.{◌≡◌, refl, ◌⊎◌, Bool, true, false, ◌&&◌, ◌||◌, List, [], ◌∷◌, ℕ, T, eqb}
-use Rattle.std.proofs.Common.{sym, subst, inl, inr, true≢false, eq-eqb}
-use Rattle.std.proofs.lemmas.Bool.{false≢true, eqb-false}
+use Rattle.std.specs.Prelude.{◌≡◌, refl, ◌⊎◌, Bool, true, false, List, [], ◌∷◌, ℕ, T, eqb}
+use Rattle.std.proofs.Common.{sym, subst, inl, inr, eq-eqb}
+use Rattle.std.proofs.lemmas.Bool.{eqb-false}
 use Rattle.rules.specs.Choice.{pick, Check, first_bad}
 
 pub pick_case : {A : Type 0} (P : A → Type 0) (b : Bool) (x y : A) → (b ≡ true → P x) → (b ≡ false → P y) → P (pick b x y)
 pick_case P true x y h k = h refl
 pick_case P false x y h k = k refl
-
-pub by_test : {P : Type 0} (b : Bool) → (b ≡ true → P) → (b ≡ false → P) → P
-by_test true h k = h refl
-by_test false h k = k refl
-
--- ---- both, either, neither
-
-pub both : (x y : Bool) → x ≡ true → y ≡ true → (x && y) ≡ true
-both x y p q = rw (p, q)
-
-pub both_parts : (x y : Bool) → (x && y) ≡ true → (x ≡ true) × (y ≡ true)
-both_parts true y e = (refl, e)
-both_parts false y e = absurd (false≢true e)
-
-pub either_part : (x y : Bool) → (x || y) ≡ true → (x ≡ true) ⊎ (y ≡ true)
-either_part true y e = inl refl
-either_part false y e = inr e
-
-pub neither_parts : (x y : Bool) → (x || y) ≡ false → (x ≡ false) × (y ≡ false)
-neither_parts true y e = absurd (true≢false e)
-neither_parts false y e = (refl, e)
 
 -- ---- refusals
 

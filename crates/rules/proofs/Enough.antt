@@ -1,10 +1,10 @@
 -- Demand 3 (a): 18 is never met, since what a started job needs is free; and (c): no job waits while the stack is empty.
-use Rattle.std.specs.Prelude.{◌≡◌, refl, ◌≢◌, true, false, not, List, [], ◌∷◌, ℕ, ◌+◌, ◌≤◌, max, get_or, ltb, leb}
-use Rattle.std.proofs.Common.{sym, ◌∙◌, subst, ⊎_elim, true≢false, arith, ltb-true, ltb-false, leb-false, eqb-true}
-use Rattle.std.proofs.Math.Bool.{and-true}
+use Rattle.std.specs.Prelude.{◌≡◌, refl, ◌≢◌, true, false, not, List, [], ◌∷◌, ℕ, ◌+◌, ◌≤◌, get_or, ltb, leb}
+use Rattle.std.proofs.Common.{subst, ⊎_elim, true≢false, arith, ltb-true, ltb-false, leb-false, eqb-true}
 use Rattle.std.proofs.lemmas.Bool.{not-false}
+use Rattle.std.proofs.lemmas.Bool.Decides.{nat_tests}
 use Rattle.rules.specs.Table.{Table, resource_count, need_of, table_refusal}
-use Rattle.rules.specs.State.{Entry, Started, State, put, level_at, is_running, free_in}
+use Rattle.rules.specs.State.{Entry, Started, State, put, is_running, free_in}
 use Rattle.rules.specs.Ceilings.{resource_ceiling, system_ceiling}
 use Rattle.rules.specs.Events.{Event, arrive, acquire, release, finish, release_all, take_checks, checks, refusal}
 use Rattle.rules.specs.Run.{moment}
@@ -50,8 +50,7 @@ idle t s [] i = refl
 idle t s (k ∷ ks) i =
     let g : Good t = good_table t i.pre.well.table in
     let m : resource_ceiling t [] ≤ 0 = resource_ceiling_zero t g in
-    let b : level_at t k ≤ max (resource_ceiling t []) 0 = ltb-false _ _ (sym (and-true _) ∙ sym (starts_is t [] k ks) ∙ i.back) in
-    absurd (omega (arith, g.positive k.who (live_all t (put s [] (k ∷ ks)) i.pre.well).1.0.listed))
+    absurd (grind (arith, nat_tests, i.back, starts_is t [] k ks, g.positive k.who (live_all t (put s [] (k ∷ ks)) i.pre.well).1.0.listed))
 
 pub never_idle : (t : Table) → table_refusal t ≡ 0 → (es : ℕ → Event) (m : ℕ) → (moment t es m).stack ≡ [] → (moment t es m).waiting ≡ []
 never_idle t g es m e =

@@ -1,19 +1,18 @@
 -- The frames of a well-formed state never add up to more than the worst stack, so within the stack size: levels rise up the stack, so they
 -- are at different levels.
-use Rattle.std.specs.Prelude.{◌≡◌, refl, Bool, true, List, [], ◌∷◌, ltb, eqb}
-use Rattle.std.proofs.Common.{ap, arith, ltb-true, eq-eqb}
-use Prim.Native.Nat.{ℕ, suc, ◌≤◌, ◌<◌, zero-le}
-use Rattle.std.proofs.Math.Nat.{le_trans}
+use Rattle.std.specs.Prelude.{◌≡◌, true, List, [], ◌∷◌, ℕ, suc, ◌≤◌, ◌<◌, eqb}
+use Rattle.std.proofs.Common.{zero-le, le_trans, arith, ltb-true}
+use Rattle.std.proofs.lemmas.Bool.{and_parts}
+use Rattle.std.proofs.lemmas.Bool.Decides.{nat_tests}
 use Rattle.rules.specs.Limits.{max_level}
 use Rattle.rules.specs.Choice.{pick}
-use Rattle.rules.specs.Counting.{max_below, sum_below}
+use Rattle.rules.specs.Counting.{sum_below}
 use Rattle.rules.specs.Table.{Table, job_count, level_of, room_of, largest_at, worst, table_refusal}
 use Rattle.rules.specs.State.{Started, State, level_at}
 use Rattle.rules.specs.Events.{Event}
 use Rattle.rules.specs.Run.{moment}
 use Rattle.rules.specs.Memory.{frame_start}
 use Rattle.rules.specs.WellFormed.{levels_rise}
-use Rattle.rules.proofs.Choices.{both_parts}
 use Rattle.rules.proofs.Counts.{le_max_below, sum_below_mono}
 use Rattle.rules.proofs.Tables.{good_table}
 use Rattle.rules.proofs.Order.{Live}
@@ -22,11 +21,7 @@ use Rattle.rules.proofs.Kept.{well_moment}
 
 -- a job's frame is no larger than the largest at its level
 frame_largest : (t : Table) (j : ℕ) → j < job_count t → room_of t j ≤ largest_at t (level_of t j)
-frame_largest t j l =
-    let f : ℕ → ℕ = λ k. pick (eqb (level_of t k) (level_of t j)) (room_of t k) 0 in
-    let m : f j ≤ max_below (job_count t) f = le_max_below (job_count t) f j l in
-    let q : f j ≡ room_of t j = ap (λ (b : Bool). pick b (room_of t j) 0) (eq-eqb (level_of t j) (level_of t j) refl) in
-    omega (arith, m, q)
+frame_largest t j l = grind (arith, nat_tests, le_max_below (job_count t) (λ k. pick (eqb (level_of t k) (level_of t j)) (room_of t k) 0) j l)
 
 -- the frames up to one at level l, against the largest at each level up to l
 frames_below : (t : Table) (s : State) (f : Started) (fs : List Started) → levels_rise t (f ∷ fs) ≡ true → All (λ f. Live t s f.entry) (f ∷ fs)
@@ -34,8 +29,8 @@ frames_below : (t : Table) (s : State) (f : Started) (fs : List Started) → lev
 unfolding frame_start sum_below levels_rise
 frames_below t s f [] h l = omega (arith, frame_largest t f.entry.who l.0.listed)
 frames_below t s f (g ∷ gs) h l =
-    let p = both_parts (ltb (level_at t g.entry) (level_at t f.entry)) (levels_rise t (g ∷ gs)) h in
-    let above : level_at t g.entry < level_at t f.entry = ltb-true (level_at t g.entry) (level_at t f.entry) p.0 in
+    let p = and_parts _ _ h in
+    let above : level_at t g.entry < level_at t f.entry = ltb-true _ _ p.0 in
     omega (
       arith,
       frame_largest t f.entry.who l.0.listed,

@@ -1,26 +1,25 @@
 -- What every moment keeps besides being well formed: each started job would pass the start test on the stack below it, and the head does
 -- not pass it now. Of the order only the four laws are used, and of events only what they do.
-use Rattle.std.specs.Prelude.{◌≡◌, Bool, true, false, ◌&&◌, List, [], ◌∷◌, ℕ, zero, suc, ◌+◌, ◌≤◌, ◌<◌, get_or, ltb, eqb}
-use Rattle.std.proofs.Math.Path.{refl}
-use Rattle.std.proofs.Common.{sym, ◌∙◌, subst, true≢false, le_trans, lt_of_le_of_lt, arith, ltb-true, ltb-false, le-ltb, eqb-true}
-use Rattle.std.proofs.lemmas.Bool.{false≢true}
+use Rattle.std.specs.Prelude.{◌≡◌, refl, Bool, true, false, List, [], ◌∷◌, ℕ, zero, suc, ◌+◌, ◌≤◌, ◌<◌, get_or}
+use Rattle.std.proofs.Common.{sym, ◌∙◌, true≢false, arith, ltb-true}
+use Rattle.std.proofs.lemmas.Bool.{false≢true, and_parts}
+use Rattle.std.proofs.lemmas.Bool.Decides.{nat_tests}
 use Rattle.std.proofs.Math.Bool.{and-false}
-use Rattle.std.proofs.Math.Nat.{le-max_left, le-max_right, max-le}
 use Rattle.rules.specs.Choice.{pick}
 use Rattle.rules.specs.Table.{Table, job_count, resource_count, need_of, table_refusal}
-use Rattle.rules.specs.State.{Entry, Started, State, put, level_at, running_level, held_in, free_in}
+use Rattle.rules.specs.State.{Entry, Started, State, put, level_at, held_in, free_in}
 use Rattle.rules.specs.Ceilings.{system_ceiling}
 use Rattle.rules.specs.Waiting.{sooner, insert}
 use Rattle.rules.specs.Start.{starts, newly_started, start_test}
-use Rattle.rules.specs.Events.{Event, Effect, enter, hold, leave, effect, with_held, applied, is_tested, refusal, after}
+use Rattle.rules.specs.Events.{Event, Effect, enter, hold, leave, effect, with_held, applied, is_tested, after}
 use Rattle.rules.specs.Run.{moment}
-use Rattle.rules.proofs.Choices.{pick_case, by_test, both_parts}
+use Rattle.rules.proofs.Choices.{pick_case}
 use Rattle.rules.proofs.Tables.{Good, good_table}
 use Rattle.rules.proofs.Ceilings.{need_le, le_resource_ceiling, resource_ceiling_mono}
 use Rattle.rules.proofs.Order.{Live, sooner_asym, sooner_behind, sooner_level, sooner_top, starts_is}
 use Rattle.rules.proofs.Well.{Well, All, all_map, all_zip}
-use Rattle.rules.proofs.Accepted.{Fair, fair}
-use Rattle.rules.proofs.Kept.{well_applied, well_start, well_fresh}
+use Rattle.rules.proofs.Accepted.{Fair, fair, after_case}
+use Rattle.rules.proofs.Kept.{well_applied, well_push, well_fresh}
 
 -- ---- the invariant
 
@@ -60,9 +59,7 @@ pub record Inv (t : Table) (s : State) : Type 0 where
 room : (t : Table) (f : Started) (fs : List Started) → f.entry.who < job_count t → Placed t f fs → (r : ℕ) → r < resource_count t
     → need_of t f.entry.who r ≤ free_in t fs r
 unfolding system_ceiling
-room t f fs j p r l =
-    need_le t r (free_in t fs r) f.entry.who j
-    (lt_of_le_of_lt (le_trans (le_resource_ceiling t fs r l) (le-max_left _ (running_level t fs))) p.above)
+room t f fs j p r l = need_le t r (free_in t fs r) f.entry.who j (grind (arith, p.above, le_resource_ceiling t fs r l))
 
 -- what a placed job may still take of a resource is free
 pub spare : (t : Table) (f : Started) (fs : List Started) → f.entry.who < job_count t → Placed t f fs → (r n : ℕ) → r < resource_count t
@@ -129,7 +126,7 @@ started_not t f fs (h ∷ hs) m = rw (starts_is t (f ∷ fs) h hs, m.0, and-fals
 pushed : (t : Table) (s : State) (fs : List Started) (k : Entry) (ks : List Entry) → Pre t (put s fs (k ∷ ks)) → starts t fs (k ∷ ks) ≡ true
     → Well t (put s (newly_started t k ∷ fs) ks) → Inv t (put s (newly_started t k ∷ fs) ks)
 pushed t s fs k ks p e w =
-    let y = both_parts (ltb (system_ceiling t fs) (level_at t k)) (sooner_top t k fs) (sym (starts_is t fs k ks) ∙ e) in
+    let y = and_parts _ _ (sym (starts_is t fs k ks) ∙ e) in
     record {
       pre =
           record {
@@ -145,14 +142,11 @@ pushed t s fs k ks p e w =
     }
 
 start_inv : (t : Table) (s : State) (fs : List Started) (ks : List Entry) → Pre t (put s fs ks) → Inv t (start_test t (put s fs ks))
-start_inv t s fs ks p = go fs ks p (well_start t s fs ks p.well)
-  where
-    go : (fs : List Started) (ks : List Entry) → Pre t (put s fs ks) → Well t (start_test t (put s fs ks)) → Inv t (start_test t (put s fs ks))
-    go fs [] p w = unfold start_test starts in record { pre = p; back = refl }
-    go fs (k ∷ ks) p w =
-        by_test (starts t fs (k ∷ ks))
-        (λ e. unfold start_test in rw e (pushed t s fs k ks p e (unfold start_test in rw e at w)))
-        (λ e. unfold start_test in rw e (record { pre = p; back = e }))
+start_inv t s fs [] p = unfold start_test starts in record { pre = p; back = refl }
+start_inv t s fs (k ∷ ks) p =
+    unfold start_test in pick_case (Inv t) (starts t fs (k ∷ ks)) _ _
+    (λ e. pushed t s fs k ks p e (well_push t s fs k ks e p.well))
+    (λ e. record { pre = p; back = e })
 
 -- ---- no start test
 
@@ -160,23 +154,12 @@ start_inv t s fs ks p = go fs ks p (well_start t s fs ks p.well)
 ceiling_held : (t : Table) (f : Started) (fs : List Started) (h : List ℕ)
     → ((r : ℕ) → get_or f.held r 0 ≤ get_or h r 0) → system_ceiling t (f ∷ fs) ≤ system_ceiling t (with_held (f ∷ fs) h)
 unfolding system_ceiling held_in
-ceiling_held t f fs h m =
-    max-le
-    (le_trans (resource_ceiling_mono t (f ∷ fs) (with_held (f ∷ fs) h) (λ r l. omega (arith, m r))) (le-max_left _ _))
-    (le-max_right _ _)
+ceiling_held t f fs h m = grind (arith, resource_ceiling_mono t (f ∷ fs) (with_held (f ∷ fs) h) (λ r l. omega (arith, m r)))
 
 no_start : (t : Table) (f : Started) (fs : List Started) (h : List ℕ) (ks : List Entry) → system_ceiling t (f ∷ fs) ≤ system_ceiling t (with_held (f ∷ fs) h)
     → starts t (f ∷ fs) ks ≡ false → starts t (with_held (f ∷ fs) h) ks ≡ false
 no_start t f fs h [] l e = unfold starts in refl
-no_start t f fs h (k ∷ ks) l e =
-    starts_is t (with_held (f ∷ fs) h) k ks
-    ∙ and_less (system_ceiling t (f ∷ fs)) (system_ceiling t (with_held (f ∷ fs) h)) (level_at t k) (sooner t k f.entry) l (sym (starts_is t (f ∷ fs) k ks) ∙ e)
-  where
-    and_less : (x y m : ℕ) (b : Bool) → x ≤ y → (ltb x m && b) ≡ false → (ltb y m && b) ≡ false
-    and_less x y m true l e =
-        let d : ltb x m ≡ false = by_test (ltb x m) (λ q. absurd (true≢false (subst (λ (z : Bool). (z && true) ≡ false) q e))) (λ q. q) in
-        rw (le-ltb y m (le_trans (ltb-false x m d) l))
-    and_less x y m false l e = and-false (ltb y m)
+no_start t f fs h (k ∷ ks) l e = rw (starts_is t (with_held (f ∷ fs) h) k ks) (grind (arith, nat_tests, starts_is t (f ∷ fs) k ks))
 
 -- ---- an event, and every moment
 
@@ -193,12 +176,10 @@ settle t s (f ∷ fs) ks i false (hold y) h =
     }
 
 inv_after : (t : Table) (s : State) (e : Event) → Inv t s → Inv t (after t s e)
-unfolding after
 inv_after t s e i =
-    pick_case (Inv t) (eqb (refusal t s e) 0) _ _
-    (λ q. settle t s s.stack s.waiting i (is_tested e) (effect t s e)
-    (fair t s s.stack s.waiting i.pre.well e (eqb-true _ _ q)))
-    (λ q. i)
+    after_case (Inv t) t s e
+    (λ q. settle t s s.stack s.waiting i (is_tested e) (effect t s e) (fair t s s.stack s.waiting i.pre.well e q))
+    i
 
 pub inv_moment : (t : Table) → table_refusal t ≡ 0 → (es : ℕ → Event) (m : ℕ) → Inv t (moment t es m)
 unfolding moment starts

@@ -1,23 +1,24 @@
 -- Every event keeps a state well formed, a hand-made one too; so every moment is well formed.
-use Rattle.std.specs.Prelude.{◌≡◌, refl, Bool, true, false, List, [], ◌∷◌, ◌++◌, ℕ, zero, suc, ◌≤◌, ◌<◌, get_or, replicate, ltb, leb, eqb}
-use Rattle.std.proofs.Common.{sym, ap, ◌∙◌, append_assoc, lt_of_le_of_lt, arith, ltb-true, lt-ltb, le-leb, eqb-true}
-use Rattle.std.proofs.Math.Bool.{not}
-use Rattle.std.proofs.Math.Nat.{le-max_right}
-use Rattle.rules.specs.Counting.{every, none_above, contains, each_once}
+use Rattle.std.specs.Prelude.{◌≡◌, refl, Bool, true, false, not, List, [], ◌∷◌, ◌++◌, ℕ, zero, suc, ◌≤◌, ◌<◌, get_or, replicate, ltb, leb}
+use Rattle.std.proofs.Common.{sym, ap, ◌∙◌, append_assoc, arith, lt-ltb, le-leb}
+use Rattle.std.proofs.lemmas.Bool.{cases_lt, and_parts, and_from}
+use Rattle.std.proofs.lemmas.Bool.Decides.{nat_tests}
+use Rattle.std.proofs.lemmas.List.{get_or_past, places}
+use Rattle.rules.specs.Counting.{every, each_once}
 use Rattle.rules.specs.Table.{Table, job_count, resource_count, job_of, units_of, table_refusal}
-use Rattle.rules.specs.State.{Entry, Started, State, fresh, put, level_at, started_jobs, waiting_jobs, running_level, held_in}
-use Rattle.rules.specs.Ceilings.{resource_ceiling, system_ceiling}
+use Rattle.rules.specs.State.{Entry, Started, State, fresh, put, started_jobs, waiting_jobs, held_in}
+use Rattle.rules.specs.Ceilings.{system_ceiling}
 use Rattle.rules.specs.Waiting.{sooner, insert}
 use Rattle.rules.specs.Start.{starts, newly_started, start_test}
-use Rattle.rules.specs.Events.{Event, Effect, enter, hold, leave, effect, applied, is_tested, refusal, after}
+use Rattle.rules.specs.Events.{Event, Effect, enter, hold, leave, effect, applied, change, is_tested, refusal, after}
 use Rattle.rules.specs.Run.{moment}
-use Rattle.rules.specs.WellFormed.{levels_rise, next_behind, in_order, within_needs, within_units, well_formed}
-use Rattle.rules.proofs.Choices.{pick_case, both, both_parts}
+use Rattle.rules.specs.WellFormed.{levels_rise, next_behind, in_order, within_units, well_formed}
+use Rattle.rules.proofs.Choices.{pick_case}
 use Rattle.rules.proofs.Counts.{every_below_make, every_move, none_above_zeros, once_move}
 use Rattle.rules.proofs.Tables.{Good, good_table}
-use Rattle.rules.proofs.Order.{Live, sooner_asym, sooner_top, starts_is}
+use Rattle.rules.proofs.Order.{Live, sooner_asym, starts_is}
 use Rattle.rules.proofs.Well.{Well, well_parts, well_formed_lem, All, live_all, held_units}
-use Rattle.rules.proofs.Accepted.{Fair, fair}
+use Rattle.rules.proofs.Accepted.{Fair, fair, after_case}
 
 -- ---- a job comes in
 
@@ -64,10 +65,10 @@ order_insert : (t : Table) → Good t → (s : State) (e : Entry) (ks : List Ent
 unfolding insert in_order
 order_insert t g s e [] l ls h = refl
 order_insert t g s e (k ∷ ks) l ls h =
-    let p = both_parts (next_behind t k ks) (in_order t ks) h in
+    let p = and_parts _ _ h in
     pick_case (λ (l : List Entry). in_order t l ≡ true) (sooner t e k) _ _
-    (λ q. both _ _ (ap not (sooner_asym t g s e k l ls.0 q)) h)
-    (λ q. both _ _ (next_insert t k e ks q p.0) (order_insert t g s e ks l ls.1 p.1))
+    (λ q. and_from _ _ (ap not (sooner_asym t g s e k l ls.0 q)) h)
+    (λ q. and_from _ _ (next_insert t k e ks q p.0) (order_insert t g s e ks l ls.1 p.1))
 
 -- ---- an effect
 
@@ -86,8 +87,8 @@ module _ (t : Table) (s : State) where
         table = w.table;
         listed =
             active_insert (every known) (every_move known) t e (started_jobs fs) ks
-            ∙ both _ _ (lt-ltb _ _ h.0.new.listed) w.listed;
-        once = active_insert each_once once_move t e (started_jobs fs) ks ∙ both _ _ (ap not h.0.alone) w.once;
+            ∙ and_from _ _ (lt-ltb _ _ h.0.new.listed) w.listed;
+        once = active_insert each_once once_move t e (started_jobs fs) ks ∙ and_from _ _ (ap not h.0.alone) w.once;
         rising = w.rising;
         order = order_insert t (good_table t w.table) s e ks h.0.new h.0.old.1 w.order;
         needs = w.needs;
@@ -104,7 +105,7 @@ module _ (t : Table) (s : State) where
         once = w.once;
         rising = w.rising;
         order = w.order;
-        needs = both _ _ k.needs (both_parts (none_above (job_of t f.entry.who).needs f.held) (within_needs t fs) w.needs).1;
+        needs = and_from _ _ k.needs (and_parts _ _ w.needs).1;
         units = units_within t (record { entry = f.entry; held = h } ∷ fs) k.units;
       }
 
@@ -114,11 +115,11 @@ module _ (t : Table) (s : State) where
       let js = started_jobs fs ++ waiting_jobs ks in
       record {
         table = w.table;
-        listed = (both_parts (known f.entry.who) (every known js) w.listed).1;
-        once = (both_parts (not (contains f.entry.who js)) (each_once js) w.once).1;
-        rising = (both_parts (ltb (running_level t fs) (level_at t f.entry)) (levels_rise t fs) w.rising).1;
+        listed = (and_parts _ _ w.listed).1;
+        once = (and_parts _ _ w.once).1;
+        rising = (and_parts _ _ w.rising).1;
         order = w.order;
-        needs = (both_parts (none_above (job_of t f.entry.who).needs f.held) (within_needs t fs) w.needs).1;
+        needs = (and_parts _ _ w.needs).1;
         units = units_within t fs (λ r l. let u = held_units t (put s (f ∷ fs) ks) w r l in omega (arith, u));
       }
 
@@ -134,24 +135,21 @@ well_applied t s (f ∷ fs) ks b leave h w = well_leave t s f fs ks w
 -- ---- the start test
 
 held_zeros : (n r : ℕ) → get_or {A = ℕ} (replicate n 0) r 0 ≡ 0
-held_zeros zero r = refl
-held_zeros (suc n) zero = refl
-held_zeros (suc n) (suc r) = held_zeros n r
+held_zeros n r = grind (arith, cases_lt r n, places, get_or_past)
 
-well_push : (t : Table) (s : State) (fs : List Started) (k : Entry) (ks : List Entry) → starts t fs (k ∷ ks) ≡ true
+pub well_push : (t : Table) (s : State) (fs : List Started) (k : Entry) (ks : List Entry) → starts t fs (k ∷ ks) ≡ true
     → Well t (put s fs (k ∷ ks)) → Well t (put s (newly_started t k ∷ fs) ks)
 unfolding every each_once levels_rise in_order held_in system_ceiling
 well_push t s fs k ks e w =
     let g : Good t = good_table t w.table in
-    let above = ltb-true (system_ceiling t fs) (level_at t k) (both_parts (ltb (system_ceiling t fs) (level_at t k)) (sooner_top t k fs) (sym (starts_is t fs k ks) ∙ e)).0 in
     let l = (live_all t (put s fs (k ∷ ks)) w).1.0.listed in
     record {
       table = w.table;
       listed = sym (every_move (λ j. ltb j (job_count t)) (started_jobs fs) k.who (waiting_jobs ks)) ∙ w.listed;
       once = sym (once_move (started_jobs fs) k.who (waiting_jobs ks)) ∙ w.once;
-      rising = both _ _ (lt-ltb (running_level t fs) (level_at t k) (lt_of_le_of_lt (le-max_right (resource_ceiling t fs) (running_level t fs)) above)) w.rising;
-      order = (both_parts (next_behind t k ks) (in_order t ks) w.order).1;
-      needs = both _ _ (none_above_zeros (job_of t k.who).needs (resource_count t) (g.full k.who l)) w.needs;
+      rising = grind (arith, nat_tests, w.rising, starts_is t fs k ks);
+      order = (and_parts _ _ w.order).1;
+      needs = and_from _ _ (none_above_zeros (job_of t k.who).needs (resource_count t) (g.full k.who l)) w.needs;
       units =
           units_within t (newly_started t k ∷ fs)
           (λ r m. let u = held_units t (put s fs (k ∷ ks)) w r m in omega (arith, u, held_zeros (resource_count t) r));
@@ -164,16 +162,18 @@ well_start t s fs (k ∷ ks) w = pick_case (Well t) (starts t fs (k ∷ ks)) _ _
 
 -- ---- an event, and every moment
 
+-- an accepted event, before its start test
+pub well_change : (t : Table) (s : State) (e : Event) → refusal t s e ≡ 0 → Well t s → Well t (change t s e)
+well_change t s e q w = well_applied t s s.stack s.waiting (is_tested e) (effect t s e) (fair t s s.stack s.waiting w e q) w
+
 pub well_after : (t : Table) (s : State) (e : Event) → Well t s → Well t (after t s e)
-unfolding after
 well_after t s e w =
-    pick_case (Well t) (eqb (refusal t s e) 0) _ _
+    after_case (Well t) t s e
     (λ q.
-    let x : Effect = effect t s e in
-    let c : Well t (applied t s x) =
-    well_applied t s s.stack s.waiting (is_tested e) x (fair t s s.stack s.waiting w e (eqb-true (refusal t s e) 0 q)) w in
-    pick_case (Well t) (is_tested e) _ _ (λ _. well_start t (applied t s x) (applied t s x).stack (applied t s x).waiting c) (λ _. c))
-    (λ q. w)
+    let x : State = change t s e in
+    let c : Well t x = well_change t s e q w in
+    pick_case (Well t) (is_tested e) _ _ (λ _. well_start t x x.stack x.waiting c) (λ _. c))
+    w
 
 pub well_fresh : (t : Table) → table_refusal t ≡ 0 → Well t fresh
 unfolding every each_once levels_rise in_order held_in

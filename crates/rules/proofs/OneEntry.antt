@@ -1,21 +1,22 @@
 -- Each job is active at most once, so a job that waits throughout is one entry throughout.
-use Rattle.std.specs.Prelude.{◌≡◌, refl, true, false, List, [], ◌∷◌, ◌++◌, ℕ, zero, suc, ◌≤◌, leb, eqb}
-use Rattle.std.proofs.Common.{sym, ◌∙◌, subst, inl, inr, ⊎_elim, true≢false, le_refl, arith, eqb-true, leb-true, leb-false}
-use Rattle.std.proofs.lemmas.Bool.{false≢true}
+use Rattle.std.specs.Prelude.{◌≡◌, refl, true, false, List, [], ◌∷◌, ◌++◌, ℕ, suc, ◌≤◌}
+use Rattle.std.proofs.Common.{inl, inr, ⊎_elim, le_refl, arith, eqb-true}
+use Rattle.std.proofs.lemmas.Bool.{false≢true, both_ways, or_cases}
+use Rattle.std.proofs.Math.Decide.{le_ind}
 use Rattle.rules.specs.Counting.{contains}
 use Rattle.rules.specs.Table.{Table, table_refusal}
 use Rattle.rules.specs.State.{Entry, Started, State, put, started_jobs, waiting_jobs}
 use Rattle.rules.specs.Waiting.{sooner, insert}
 use Rattle.rules.specs.Start.{starts, start_test}
-use Rattle.rules.specs.Events.{Event, Effect, enter, hold, leave, effect, applied, is_tested, refusal, after}
+use Rattle.rules.specs.Events.{Event, Effect, enter, hold, leave, effect, applied, change, is_tested, after}
 use Rattle.rules.specs.Run.{moment}
 use Rattle.rules.specs.WellFormed.{none_twice}
 use Rattle.rules.specs.Demand3.{is_waiting, WaitsThrough}
-use Rattle.rules.proofs.Choices.{pick_case, by_test, either_part, neither_parts}
+use Rattle.rules.proofs.Choices.{pick_case}
 use Rattle.rules.proofs.Counts.{contains-append, once_move, once_first}
 use Rattle.rules.proofs.Well.{Well}
-use Rattle.rules.proofs.Accepted.{fair}
-use Rattle.rules.proofs.Kept.{well_applied, well_moment}
+use Rattle.rules.proofs.Accepted.{after_case}
+use Rattle.rules.proofs.Kept.{well_change, well_moment}
 use Rattle.rules.proofs.Stretches.{Among, Waits}
 
 -- ---- what waits and whose job still waits after an event, waits still
@@ -43,39 +44,30 @@ still_start t s fs (k ∷ ks) w o m =
   where
     -- the head does not wait a second time
     once : contains k.who (waiting_jobs ks) ≡ false
-    once =
-        let f = (once_first k.who (started_jobs fs ++ waiting_jobs ks) (sym (once_move (started_jobs fs) k.who (waiting_jobs ks)) ∙ o)).0 in
-        (neither_parts (contains k.who (started_jobs fs)) (contains k.who (waiting_jobs ks))
-        (sym (contains-append k.who (started_jobs fs) (waiting_jobs ks)) ∙ f)).1
+    once = grind (arith, once_move (started_jobs fs) k.who (waiting_jobs ks), once_first k.who (started_jobs fs ++ waiting_jobs ks), contains-append)
 
     gone : Among w (k ∷ ks) → contains w.who (waiting_jobs ks) ≡ true → Among w ks
-    gone (inl q) h = absurd (true≢false (sym h ∙ subst (λ (x : Entry). contains x.who (waiting_jobs ks) ≡ false) q once))
+    gone (inl q) h = absurd (both_ways _ once (rw q h))
     gone (inr y) h = y
 
 still : (t : Table) (s : State) (e : Event) → Well t s → (w : Entry) → Waits s w → is_waiting (after t s e) w.who ≡ true → Waits (after t s e) w
-unfolding after
 still t s e c w m =
-    pick_case (λ (u : State). is_waiting u w.who ≡ true → Waits u w) (eqb (refusal t s e) 0) _ _
+    after_case (λ u. is_waiting u w.who ≡ true → Waits u w) t s e
     (λ q.
-    let x : Effect = effect t s e in
-    let d : Well t (applied t s x) =
-    well_applied t s s.stack s.waiting (is_tested e) x (fair t s s.stack s.waiting c e (eqb-true (refusal t s e) 0 q)) c in
-    pick_case (λ (u : State). is_waiting u w.who ≡ true → Waits u w) (is_tested e) _ _
-    (λ _ h. still_start t (applied t s x) (applied t s x).stack (applied t s x).waiting w d.once (among_applied t s x w m) h)
-    (λ _ h. among_applied t s x w m))
-    (λ q h. m)
+    let x : State = change t s e in
+    pick_case (λ u. is_waiting u w.who ≡ true → Waits u w) (is_tested e) _ _
+    (λ _ h. still_start t x x.stack x.waiting w (well_change t s e q c).once (among_applied t s (effect t s e) w m) h)
+    (λ _ h. among_applied t s (effect t s e) w m))
+    (λ h. m)
 
 pub one_entry : (t : Table) → table_refusal t ≡ 0 → (es : ℕ → Event) (w : Entry) (p q : ℕ) → p ≤ q → WaitsThrough t es w.who p q
     → Waits (moment t es p) w → Waits (moment t es q) w
 unfolding moment
-one_entry t g es w p zero l th m = let z : p ≡ 0 = omega arith in subst (λ (n : ℕ). Waits (moment t es n) w) z m
-one_entry t g es w p (suc q) l th m =
-    by_test (leb p q)
-    (λ e.
-    let l' : p ≤ q = leb-true p q e in
-    let ih : Waits (moment t es q) w = one_entry t g es w p q l' (λ n x y. th n x (omega arith)) m in
-    still t (moment t es q) (es q) (well_moment t g es q) w ih (th (suc q) l (le_refl _)))
-    (λ e. let z : p ≡ suc q = omega (arith, leb-false p q e) in subst (λ (n : ℕ). Waits (moment t es n) w) z m)
+one_entry t g es w p q l th m =
+    le_ind (λ n. WaitsThrough t es w.who p n → Waits (moment t es n) w)
+    (λ _. m)
+    (λ n l ih th. still t (moment t es n) (es n) (well_moment t g es n) w (ih (λ i x y. th i x (omega arith))) (th (suc n) (omega arith) (le_refl _)))
+    q l th
 
 -- ---- a job that waits is an entry that waits
 
@@ -86,4 +78,4 @@ find (k ∷ ks) j h =
     ⊎_elim
     (λ x. (k, inl refl, eqb-true k.who j x))
     (λ x. let r = find ks j x in (r.0, inr r.1, r.2))
-    (either_part (eqb k.who j) (contains j (waiting_jobs ks)) h)
+    (or_cases _ _ h)

@@ -1,16 +1,14 @@
 -- The laws that demand 3 asks of the waiting order. Its proof opens `sooner` in this file alone, so another order (document 001, section 2.5)
 -- is proved by proving these four laws of it.
-use Rattle.std.specs.Prelude.{◌≡◌, Bool, false, ◌&&◌, List, [], ◌∷◌, ℕ, ◌≤◌, ◌<◌, max}
-use Rattle.std.proofs.Common.{sym, arith}
-use Rattle.std.proofs.Math.Bool.{true, and-true}
-use Rattle.std.proofs.Math.Dec.{ltb}
-use borrow.Author.Tests.{ltb-true, ltb-false, lt-ltb, le-ltb}
+use Rattle.std.specs.Prelude.{◌≡◌, Bool, true, false, ◌&&◌, List, [], ◌∷◌, ◌<◌, ltb}
+use Rattle.std.proofs.Common.{sym, arith, ltb-true}
+use Rattle.std.proofs.lemmas.Bool.Decides.{nat_tests}
+use Rattle.std.proofs.Math.Bool.{and-true}
 use Rattle.rules.specs.Table.{Table, job_count}
 use Rattle.rules.specs.State.{Entry, Started, State, level_at}
-use Rattle.rules.specs.Ceilings.{resource_ceiling, system_ceiling}
+use Rattle.rules.specs.Ceilings.{system_ceiling}
 use Rattle.rules.specs.Waiting.{sooner}
 use Rattle.rules.specs.Start.{starts}
-use Rattle.rules.proofs.Choices.{by_test}
 use Rattle.rules.proofs.Tables.{Good}
 
 -- what every active entry keeps, for the order to be one
@@ -25,16 +23,13 @@ Live t s e = LiveAt t e
 -- (1) never both sooner
 pub sooner_asym : (t : Table) → Good t → (s : State) (a b : Entry) → Live t s a → Live t s b → sooner t a b ≡ true → sooner t b a ≡ false
 unfolding sooner
-sooner_asym t g s a b x y h = let l : level_at t b < level_at t a = ltb-true _ _ h in le-ltb (level_at t a) (level_at t b) (omega arith)
+sooner_asym t g s a b x y h = grind (arith, nat_tests)
 
 -- (2) what is not sooner than one behind is not sooner than the first
 pub sooner_behind : (t : Table) → Good t → (s : State) (a b d : Entry) → Live t s a → Live t s b → Live t s d
     → sooner t b a ≡ false → sooner t d b ≡ false → sooner t d a ≡ false
 unfolding sooner
-sooner_behind t g s a b d x y z h k =
-    let l : level_at t b ≤ level_at t a = ltb-false _ _ h in
-    let m : level_at t d ≤ level_at t b = ltb-false _ _ k in
-    le-ltb (level_at t a) (level_at t d) (omega arith)
+sooner_behind t g s a b d x y z h k = grind (arith, nat_tests)
 
 -- (3) one that arrives and is sooner than an active one has the higher level (document 001, condition (2.1))
 pub sooner_level : (t : Table) → Good t → (s : State) (a b : Entry) → Live t s a → Live t s b → sooner t a b ≡ true → level_at t b < level_at t a
@@ -50,13 +45,7 @@ pub starts_is : (t : Table) (fs : List Started) (k : Entry) (ks : List Entry)
     → starts t fs (k ∷ ks) ≡ (ltb (system_ceiling t fs) (level_at t k) && sooner_top t k fs)
 unfolding starts
 starts_is t [] k ks = sym (and-true _)
-starts_is t (f ∷ fs) k ks = unfold sooner system_ceiling in go (resource_ceiling t (f ∷ fs)) (level_at t f.entry) (level_at t k)
-  where
-    go : (r l m : ℕ) → ltb (max r l) m ≡ (ltb (max r l) m && ltb l m)
-    go r l m =
-        by_test (ltb (max r l) m)
-        (λ e. let q : ltb l m ≡ true = lt-ltb l m (omega (arith, ltb-true (max r l) m e)) in rw (e, q))
-        (λ e. rw e)
+starts_is t (f ∷ fs) k ks = unfold sooner system_ceiling in grind (arith, nat_tests)
 
 -- ---- lower level and later in the order are one: what demand 3 says of levels
 

@@ -1,7 +1,7 @@
 -- The premises hold of document 01's table, the case of demand 3 (b) occurs in its log, and 18 is answered in a state made by hand: so
 -- none of the statements is empty.
-use Rattle.std.specs.Prelude.{◌≡◌, refl, true, [], ◌∷◌, ℕ, zero, suc, get_or}
-use Rattle.std.proofs.Common.{arith, lit≤}
+use Rattle.std.specs.Prelude.{◌≡◌, refl, true, [], ◌∷◌, ℕ, ◌+◌, ◌-◌, get_or}
+use Rattle.std.proofs.Common.{subst, lit≤, arith}
 use Rattle.rules.specs.Choice.{first_bad}
 use Rattle.rules.specs.Counting.{max_below, sum_below, every_below, total, every, none_above, contains, each_once}
 use Rattle.rules.specs.Table.{worst, table_refusal}
@@ -12,8 +12,9 @@ use Rattle.rules.specs.Start.{starts, start_test}
 use Rattle.rules.specs.Events.{Event, acquire, finish, refusal, applied, after}
 use Rattle.rules.specs.Run.{moment}
 use Rattle.rules.specs.WellFormed.{levels_rise, in_order, well_formed}
-use Rattle.rules.specs.Demand3.{WaitsThrough, lower_runs, OneHolder}
+use Rattle.rules.specs.Demand3.{is_waiting, WaitsThrough, lower_runs, OneHolder}
 use Rattle.rules.specs.Examples.{station, log}
+use Rattle.rules.proofs.Counts.{every_below_at}
 use Rattle.rules.proofs.Demand.{demand_3}
 
 -- document 01's table could be written
@@ -27,17 +28,11 @@ events i = get_or log i (finish 0)
 
 -- job 1 waits from moment 3 to moment 8, and at both a job of lower level runs, job 0
 pub case_waits : WaitsThrough (station 90) events 1 3 8
-unfolding events moment first_bad max_below total contains held_in ceiling resource_ceiling system_ceiling sooner insert starts start_test refusal applied after
-case_waits zero x y = absurd (omega arith)
-case_waits (suc zero) x y = absurd (omega arith)
-case_waits (suc (suc zero)) x y = absurd (omega arith)
-case_waits (suc (suc (suc zero))) x y = refl
-case_waits (suc (suc (suc (suc zero)))) x y = refl
-case_waits (suc (suc (suc (suc (suc zero))))) x y = refl
-case_waits (suc (suc (suc (suc (suc (suc zero)))))) x y = refl
-case_waits (suc (suc (suc (suc (suc (suc (suc zero))))))) x y = refl
-case_waits (suc (suc (suc (suc (suc (suc (suc (suc zero)))))))) x y = refl
-case_waits (suc (suc (suc (suc (suc (suc (suc (suc (suc m))))))))) x y = absurd (omega arith)
+unfolding events moment every_below first_bad max_below total contains held_in ceiling resource_ceiling system_ceiling sooner insert starts start_test refusal applied after
+case_waits m x y =
+    let z : 3 + (m - 3) ≡ m = omega arith in
+    subst (λ (n : ℕ). is_waiting (moment (station 90) events n) 1 ≡ true) z
+    (every_below_at 6 (λ i. is_waiting (moment (station 90) events (3 + i)) 1) refl (m - 3) (omega arith))
 
 pub case_first : lower_runs (station 90) (moment (station 90) events 3).stack 1 ≡ true
 unfolding events moment first_bad max_below total contains held_in ceiling resource_ceiling system_ceiling sooner insert starts start_test refusal applied after

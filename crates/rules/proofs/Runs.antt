@@ -1,8 +1,6 @@
 -- The run of a list of events ends in the moment of that number, so what is proved of moments is proved of runs.
-use Rattle.std.specs.Prelude.{◌≡◌, List, [], ◌∷◌, ◌++◌, length, get_or, take}
-use Rattle.std.proofs.Math.Path.{refl, ap}
-use Rattle.std.proofs.Common.{sym, ◌∙◌, le_refl, arith, take-suc}
-use Prim.Native.Nat.{ℕ, zero, suc, ◌≤◌}
+use Rattle.std.specs.Prelude.{◌≡◌, refl, List, [], ◌∷◌, ◌++◌, ℕ, zero, suc, ◌≤◌, length, get_or, take}
+use Rattle.std.proofs.Common.{sym, ap, ◌∙◌, le_refl, arith, take-suc}
 use Rattle.std.proofs.Math.Seq.{take-length}
 use Rattle.rules.specs.Table.{Table}
 use Rattle.rules.specs.State.{State, fresh}

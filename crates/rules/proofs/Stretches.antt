@@ -1,16 +1,11 @@
 -- Demand 3 (b), by entries: while the entry w waits, look at the topmost started job that w is sooner than. No start goes below w, so this job
 -- stays the same one; it runs only while it holds units, and once it holds none it does not run again before w starts.
-use Rattle.std.specs.Prelude.{◌≡◌, ◌⊎◌, Bool, ◌&&◌, List, [], ◌∷◌, leb, eqb}
-use Rattle.std.proofs.Math.Path.{refl, sym}
-use Rattle.std.proofs.Common.{ap, ◌∙◌, true≢false, le_refl, eq-zero-or-pos, add-zero}
-use Rattle.std.proofs.Math.Logic.{inl, inr, ⊎_elim}
-use Rattle.std.proofs.Math.Bool.{true, false}
-use Rattle.std.proofs.lemmas.Bool.{false≢true}
+use Rattle.std.specs.Prelude.{◌≡◌, refl, ◌⊎◌, Bool, true, false, ◌&&◌, List, [], ◌∷◌, ℕ, suc, ◌≤◌, ◌<◌, eqb}
+use Rattle.std.proofs.Common.{sym, ap, ◌∙◌, inl, inr, ⊎_elim, true≢false, le_refl, le_trans, eq-zero-or-pos, add-zero, arith, eq-eqb, ne_eqb}
+use Rattle.std.proofs.lemmas.Bool.{false≢true, cases_Bool, true_from_ne_false, false_from_ne_true}
+use Rattle.std.proofs.lemmas.Bool.Decides.{nat_tests}
 use Rattle.std.proofs.Math.Option.{none, some}
-use Prim.Native.Nat.{ℕ, zero, suc, ◌≤◌, ◌<◌}
-use Rattle.std.proofs.Math.Nat.{le_trans}
-use native.Mathlib.Omega.{arith}
-use borrow.Author.Tests.{ltb-false, leb-true, leb-false, eqb-true, eq-eqb, ne_eqb}
+use Rattle.std.proofs.Math.Decide.{le_ind}
 use Rattle.rules.specs.Choice.{pick}
 use Rattle.rules.specs.Counting.{total}
 use Rattle.rules.specs.Table.{Table, resource_count, table_refusal}
@@ -21,13 +16,13 @@ use Rattle.rules.specs.Start.{starts, newly_started, with_start, start_test}
 use Rattle.rules.specs.Events.{Event, Effect, enter, hold, leave, effect, applied, change, is_tested, refusal, after, starts_after, started_by}
 use Rattle.rules.specs.Run.{moment}
 use Rattle.rules.specs.Demand3.{is_job, activation, units_held, Stretch}
-use Rattle.rules.proofs.Choices.{pick_case, by_test}
+use Rattle.rules.proofs.Choices.{pick_case}
 use Rattle.rules.proofs.Counts.{total_at, total_zeros}
 use Rattle.rules.proofs.Tables.{Good, good_table}
 use Rattle.rules.proofs.Ceilings.{resource_ceiling_mono}
 use Rattle.rules.proofs.Order.{Live, sooner_behind, starts_is}
 use Rattle.rules.proofs.Well.{All, live_all}
-use Rattle.rules.proofs.Accepted.{Fair, fair}
+use Rattle.rules.proofs.Accepted.{Fair, fair, after_case}
 use Rattle.rules.proofs.Invariant.{Sound, Falling, Pre, Inv, pre_applied, inv_moment}
 
 -- ---- who waits and who runs, by entries
@@ -55,10 +50,9 @@ head_sooner : (t : Table) → Good t → (s : State) (f w k : Entry) (ks : List 
     → Among w (k ∷ ks) → sooner t w f ≡ true → sooner t k f ≡ true
 head_sooner t g s f w k ks l ls m (inl q) h = rw q h
 head_sooner t g s f w k ks l ls m (inr e) h =
-    by_test (sooner t k f)
-    (λ y. y)
-    (λ n. absurd (true≢false (sym h ∙ sooner_behind t g s f k w l ls.0 (all_at (Live t s) w ks ls.1 e) n
-    (all_at (λ x. sooner t x k ≡ false) w ks m.0 e))))
+    true_from_ne_false _
+    (λ n. true≢false (sym h ∙ sooner_behind t g s f k w l ls.0 (all_at (Live t s) w ks ls.1 e) n
+    (all_at (λ x. sooner t x k ≡ false) w ks m.0 e)))
 
 passed_holds : (t : Table) (s : State) (f : Started) (fs : List Started) (ks : List Entry) (w : Entry) → Inv t (put s (f ∷ fs) ks) → Among w ks
     → sooner t w f.entry ≡ true → 0 < total f.held
@@ -72,15 +66,10 @@ passed_holds t s f fs (k ∷ ks) w i e l =
     resource_ceiling_mono t (f ∷ fs) fs (λ r _. unfold held_in in omega (arith, total_at f.held r)) in
     let y : sooner t k f.entry ≡ true = head_sooner t g s f.entry w k ks v.0.0 v.1 i.pre.falling e l in
     let h : level_at t f.entry < level_at t k = i.pre.rises.0.0 y in
-    let n : level_at t k ≤ system_ceiling t (f ∷ fs) =
-    ltb-false _ _ (no_and _ (sooner t k f.entry) y (sym (starts_is t (f ∷ fs) k ks) ∙ i.back)) in
+    let n : level_at t k ≤ system_ceiling t (f ∷ fs) = grind (arith, nat_tests, i.back, starts_is t (f ∷ fs) k ks) in
     absurd (unfold system_ceiling in omega (arith, i.pre.sound.0.above, n)))
     (λ p. p)
     (eq-zero-or-pos (total f.held))
-  where
-    no_and : (x y : Bool) → y ≡ true → (x && y) ≡ false → x ≡ false
-    no_and true y p q = absurd (true≢false (sym p ∙ q))
-    no_and false y p q = refl
 
 -- ---- the part of the stack from the topmost that w is sooner than
 
@@ -90,11 +79,11 @@ low_part t w (f ∷ fs) = pick (sooner t w f.entry) (f ∷ fs) (low_part t w fs)
 
 low_yes : (t : Table) (w : Entry) (f : Started) (fs : List Started) → sooner t w f.entry ≡ true → low_part t w (f ∷ fs) ≡ f ∷ fs
 unfolding low_part
-low_yes t w f fs q = ap (λ (b : Bool). pick b (f ∷ fs) (low_part t w fs)) q
+low_yes t w f fs q = rw q
 
 low_no : (t : Table) (w : Entry) (f : Started) (fs : List Started) → sooner t w f.entry ≡ false → low_part t w (f ∷ fs) ≡ low_part t w fs
 unfolding low_part
-low_no t w f fs q = ap (λ (b : Bool). pick b (f ∷ fs) (low_part t w fs)) q
+low_no t w f fs q = rw q
 
 -- a start leaves it, while w waits
 low_start : (t : Table) (s : State) (fs : List Started) (ks : List Entry) (w : Entry) → Pre t (put s fs ks)
@@ -116,16 +105,18 @@ module _ (t : Table) (s : State) (f : Started) (fs : List Started) (ks : List En
   unfolding Kept applied
   low_applied v (enter e) h = inr refl
   low_applied v (hold y) h =
-      by_test (sooner t w f.entry)
+      ⊎_elim
       (λ q. inl (
         rw (low_yes t w f fs q) (passed_holds t s f fs ks w i m q),
         rw (low_yes t w (record { entry = f.entry; held = y }) fs q) (rw (low_yes t w f fs q) at b),
       ))
       (λ q. inr (low_no t w (record { entry = f.entry; held = y }) fs q ∙ sym (low_no t w f fs q)))
+      (cases_Bool (sooner t w f.entry))
   low_applied v leave h =
-      by_test (sooner t w f.entry)
+      ⊎_elim
       (λ q. absurd (omega (arith, passed_holds t s f fs ks w i m q, h.0)))
       (λ q. inr (sym (low_no t w f fs q)))
+      (cases_Bool (sooner t w f.entry))
 
   kept_then : (gs hs : List Started) → Kept t w a (f ∷ fs) gs → low_part t w hs ≡ low_part t w gs → Kept t w a (f ∷ fs) hs
   unfolding Kept
@@ -141,12 +132,12 @@ module _ (t : Table) (s : State) (f : Started) (fs : List Started) (ks : List En
 
 low_after : (t : Table) (s : State) (fs : List Started) (ks : List Entry) (w a : Entry) (e : Event) → Inv t (put s fs ks) → Among w ks
     → Top (low_part t w fs) a → Waits (after t (put s fs ks) e) w → Kept t w a fs (after t (put s fs ks) e).stack
-unfolding after Kept
+unfolding Kept
 low_after t s [] ks w a e i m b = absurd (unfold low_part in b)
 low_after t s (f ∷ fs) ks w a e i m b =
-    pick_case (λ (s : State). Waits s w → Kept t w a (f ∷ fs) s.stack) (eqb (refusal t (put s (f ∷ fs) ks) e) 0) _ _
-    (λ q v. low_settle t s f fs ks w a i m b (is_tested e) (effect t (put s (f ∷ fs) ks) e) (fair t s (f ∷ fs) ks i.pre.well e (eqb-true _ _ q)) v)
-    (λ q v. inr refl)
+    after_case (λ u. Waits u w → Kept t w a (f ∷ fs) u.stack) t (put s (f ∷ fs) ks) e
+    (λ q. low_settle t s f fs ks w a i m b (is_tested e) (effect t (put s (f ∷ fs) ks) e) (fair t s (f ∷ fs) ks i.pre.well e q))
+    (λ v. inr refl)
 
 -- ---- the moments p .. q throughout which w waits
 
@@ -164,30 +155,25 @@ module _ (t : Table) (g : table_refusal t ≡ 0) (es : ℕ → Event) (w a : Ent
 
   forward : (q : ℕ) → p ≤ q → Through q → Top (low p) a → Top (low q) a
   unfolding Through Kept
-  forward zero l th b = let z : p ≡ 0 = omega arith in rw z at b
-  forward (suc q) l th b =
-      by_test (leb p q)
-      (λ e.
-      let l' : p ≤ q = leb-true p q e in
-      let ih : Top (low q) a = forward q l' (λ m x y. th m x (omega arith)) b in
-      ⊎_elim (λ x. x.1) (λ y. rw y ih) (one_step q (th q l' (omega arith)) (th (suc q) l (le_refl _)) ih))
-      (λ e. let z : p ≡ suc q = omega (arith, leb-false p q e) in rw z at b)
+  forward q l th b =
+      le_ind (λ n. Through n → Top (low n) a)
+      (λ _. b)
+      (λ n l ih th.
+      let top : Top (low n) a = ih (λ m x y. th m x (omega arith)) in
+      ⊎_elim (λ x. x.1) (λ y. rw y top) (one_step n (th n l (omega arith)) (th (suc n) (omega arith) (le_refl _)) top))
+      q l th
 
   backward : (q : ℕ) → p ≤ q → Through q → Top (low p) a → 0 < total (running_held (low q))
       → (m : ℕ) → p ≤ m → m ≤ q → 0 < total (running_held (low m))
   unfolding Through Kept
-  backward zero l th b h m x y = let z : m ≡ 0 = omega arith in rw z h
-  backward (suc q) l th b h m x y =
-      by_test (leb m q)
-      (λ e.
-      let y' : m ≤ q = leb-true m q e in
-      let l' : p ≤ q = le_trans x y' in
-      let th' : Through q = λ m x y. th m x (omega arith) in
-      let ih : Top (low q) a = forward q l' th' b in
-      let h' : 0 < total (running_held (low q)) =
-      ⊎_elim (λ x. x.0) (λ y. rw y at h) (one_step q (th q l' (omega arith)) (th (suc q) l (le_refl _)) ih) in
-      backward q l' th' b h' m x y')
-      (λ e. let z : m ≡ suc q = omega (arith, leb-false m q e) in rw z h)
+  backward q l th b h m x y =
+      le_ind (λ n. Through n → 0 < total (running_held (low n)) → 0 < total (running_held (low m)))
+      (λ _ h. h)
+      (λ n y ih th h.
+      let th' : Through n = λ m x y. th m x (omega arith) in
+      let l : p ≤ n = le_trans x y in
+      ih th' (⊎_elim (λ x. x.0) (λ y. rw y at h) (one_step n (th n l (omega arith)) (th (suc n) (omega arith) (le_refl _)) (forward n l th' b))))
+      q y th h
 
 -- ---- from the low part to the job
 
@@ -197,7 +183,7 @@ low_held : (t : Table) (w a : Entry) (fs : List Started) → Sound t fs → Top 
 unfolding units_held system_ceiling
 low_held t w a [] s b = absurd (unfold low_part in b)
 low_held t w a (f ∷ fs) s b =
-    by_test (sooner t w f.entry)
+    ⊎_elim
     (λ q.
     let z : f.entry ≡ a = rw (low_yes t w f fs q) at b in
     let e : eqb f.entry.who a.who ≡ true = eq-eqb _ _ (ap (λ (x : Entry). x.who) z) in
@@ -208,6 +194,7 @@ low_held t w a (f ∷ fs) s b =
     let d : eqb f.entry.who a.who ≡ false =
     ne_eqb _ _ (λ (z : f.entry.who ≡ a.who). let l' : level_at t a < level_at t a = rw z at l in omega arith) in
     (omega arith, rw (low_no t w f fs q, d) r.1))
+    (cases_Bool (sooner t w f.entry))
 
 low_runs : (t : Table) (w a : Entry) (fs : List Started) → Top fs a → sooner t w a ≡ true → low_part t w fs ≡ fs
 low_runs t w a [] e l = absurd e
@@ -243,17 +230,14 @@ started_empty t s e j = go (change t s e) (eqb (refusal t s e) 0) (is_tested e) 
 
 one_activation : (t : Table) (es : ℕ → Event) (j p q : ℕ) → p ≤ q → Stretch t es j p q → activation t es j p ≡ activation t es j q
 unfolding activation moment
-one_activation t es j p zero l h = let z : p ≡ 0 = omega arith in rw z
-one_activation t es j p (suc q) l h =
-    by_test (leb p q)
-    (λ e.
-    let l' : p ≤ q = leb-true p q e in
-    let d : is_job j (started_by t (moment t es q) (es q)) ≡ false =
-    by_test (is_job j (started_by t (moment t es q) (es q)))
-    (λ y. absurd (let v = started_empty t (moment t es q) (es q) j y in omega (arith, h (suc q) l (le_refl _))))
-    (λ n. n) in
-    rw (d, add-zero) (one_activation t es j p q l' (λ m x y. h m x (omega arith))))
-    (λ e. let z : p ≡ suc q = omega (arith, leb-false p q e) in rw z)
+one_activation t es j p q l h =
+    le_ind (λ n. Stretch t es j p n → activation t es j p ≡ activation t es j n)
+    (λ _. refl)
+    (λ n l ih h.
+    let d : is_job j (started_by t (moment t es n) (es n)) ≡ false =
+    false_from_ne_true _ (λ y. let v = started_empty t (moment t es n) (es n) j y in omega (arith, h (suc n) (omega arith) (le_refl _))) in
+    rw (d, add-zero) (ih (λ m x y. h m x (omega arith))))
+    q l h
 
 -- ---- together
 

@@ -1,13 +1,14 @@
 -- What a table that could be written keeps: its counts, levels and needs are in range, and its stack holds the worst stack.
-use Rattle.std.specs.Prelude.{◌≡◌, true, ◌&&◌, List, ℕ, ◌≤◌, ◌<◌, length, get_or, ltb, leb}
-use Rattle.std.proofs.Common.{sym, subst, zero-le, ltb-true, ltb-false, leb-true}
-use Rattle.std.proofs.Math.ListN.{get_or-eq_default}
-use Rattle.std.proofs.lemmas.Bool.{not-false}
-use Rattle.rules.specs.Limits.{max_jobs, max_resources, max_units, max_level, max_bytes}
+use Rattle.std.specs.Prelude.{◌≡◌, true, List, ℕ, ◌≤◌, ◌<◌, length}
+use Rattle.std.proofs.Common.{⊎_elim, zero-le, arith}
+use Rattle.std.proofs.lemmas.Bool.{cases_lt}
+use Rattle.std.proofs.lemmas.Bool.Decides.{nat_tests}
+use Rattle.std.proofs.lemmas.List.{get_or_past}
+use Rattle.rules.specs.Limits.{max_jobs, max_resources, max_units, max_level}
 use Rattle.rules.specs.Counting.{within, every, none_above}
 use Rattle.rules.specs.Table.{Job, Table, no_job, job_of, job_count, resource_count, level_of, need_of, units_of, frame_of, worst}
 use Rattle.rules.specs.Table.{counts_good, job_good, values_good, stack_good, table_checks, table_refusal}
-use Rattle.rules.proofs.Choices.{by_test, both_parts, stopped}
+use Rattle.rules.proofs.Choices.{stopped}
 use Rattle.rules.proofs.Counts.{every_at, none_above_at, none_above-length}
 
 pub record Good (t : Table) : Type 0 where
@@ -22,7 +23,7 @@ pub record Good (t : Table) : Type 0 where
   pub deep : worst t ≤ t.size
 
 within_parts : (low high x : ℕ) → within low high x ≡ true → (low ≤ x) × (x ≤ high)
-within_parts low high x h = let p = both_parts (leb low x) (leb x high) h in (leb-true low x p.0, leb-true x high p.1)
+within_parts low high x h = grind (arith, nat_tests)
 
 -- of a listed job
 record JobFits (units : List ℕ) (j : Job) : Type 0 where
@@ -32,11 +33,7 @@ record JobFits (units : List ℕ) (j : Job) : Type 0 where
   needs : none_above units j.needs ≡ true
 
 job_fits : (units : List ℕ) (j : Job) → job_good units j ≡ true → JobFits units j
-job_fits units j h =
-    let p = both_parts (within 1 max_level j.level && within 1 max_bytes j.frame) (none_above units j.needs) h in
-    let q = both_parts (within 1 max_level j.level) (within 1 max_bytes j.frame) p.0 in
-    let l = within_parts 1 max_level j.level q.0 in
-    record { positive = l.0; low = l.1; framed = (within_parts 1 max_bytes j.frame q.1).0; needs = p.1 }
+job_fits units j h = grind (arith, nat_tests)
 
 module _ (t : Table) (jobs : every (job_good t.units) t.jobs ≡ true) where
   fit_at : (j : ℕ) → j < job_count t → JobFits t.units (job_of t j)
@@ -44,28 +41,26 @@ module _ (t : Table) (jobs : every (job_good t.units) t.jobs ≡ true) where
 
   need_fits : (j r : ℕ) → need_of t j r ≤ units_of t r
   need_fits j r =
-      by_test (ltb j (job_count t))
-      (λ e. none_above_at t.units (job_of t j).needs (fit_at j (ltb-true j (job_count t) e)).needs r)
-      (λ e.
-      let z : job_of t j ≡ no_job = get_or-eq_default t.jobs no_job (ltb-false j (job_count t) e) in
-      subst (λ (x : Job). get_or x.needs r 0 ≤ units_of t r) (sym z) zero-le)
+      ⊎_elim
+      (λ l. none_above_at t.units (job_of t j).needs (fit_at j l).needs r)
+      (λ l. rw (get_or_past t.jobs j no_job l) zero-le)
+      (cases_lt j (job_count t))
 
 pub good_table : (t : Table) → table_refusal t ≡ 0 → Good t
 unfolding table_refusal
 good_table t h =
     let st = stopped 0 (table_checks (counts_good (resource_count t) (job_count t)) (values_good t) (stack_good t)) h in
-    let c = both_parts (leb (resource_count t) max_resources) (within 1 max_jobs (job_count t)) (not-false _ st.0) in
-    let v = both_parts (within 1 max_bytes t.size && every (within 1 max_units) t.units) (every (job_good t.units) t.jobs) (not-false _ st.1.0) in
-    let u = both_parts (within 1 max_bytes t.size) (every (within 1 max_units) t.units) v.0 in
-    let at : (j : ℕ) → j < job_count t → JobFits t.units (job_of t j) = fit_at t v.1 in
+    let units : every (within 1 max_units) t.units ≡ true = grind arith in
+    let jobs : every (job_good t.units) t.jobs ≡ true = grind arith in
+    let at : (j : ℕ) → j < job_count t → JobFits t.units (job_of t j) = fit_at t jobs in
     record {
-      few_jobs = (within_parts 1 max_jobs (job_count t) c.1).1;
-      few_resources = leb-true (resource_count t) max_resources c.0;
+      few_jobs = grind (arith, nat_tests);
+      few_resources = grind (arith, nat_tests);
       positive = λ j l. (at j l).positive;
       low = λ j l. (at j l).low;
       framed = λ j l. (at j l).framed;
       full = λ j l. none_above-length t.units (job_of t j).needs (at j l).needs;
-      fits = need_fits t v.1;
-      few_units = λ r l. (within_parts 1 max_units (units_of t r) (every_at (within 1 max_units) t.units u.1 r 0 l)).1;
-      deep = leb-true (worst t) t.size (not-false _ st.1.1.0);
+      fits = need_fits t jobs;
+      few_units = λ r l. grind (arith, nat_tests, every_at (within 1 max_units) t.units units r 0 l);
+      deep = grind (arith, nat_tests);
     }

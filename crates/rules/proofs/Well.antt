@@ -1,11 +1,12 @@
 -- A well-formed state taken apart and put together, and what follows of its entries.
-use Rattle.std.specs.Prelude.{◌≡◌, Bool, true, ◌&&◌, List, [], ◌∷◌, ◌++◌, ℕ, ◌≤◌, ◌<◌, ltb, leb}
-use Rattle.std.proofs.Common.{ltb-true, leb-true, eqb-true, eq-eqb}
+use Rattle.std.specs.Prelude.{◌≡◌, Bool, true, List, [], ◌∷◌, ◌++◌, ℕ, ◌≤◌, ◌<◌, ltb, leb}
+use Rattle.std.proofs.Common.{arith, ltb-true, leb-true, eq-eqb}
+use Rattle.std.proofs.lemmas.Bool.{and_parts}
+use Rattle.std.proofs.lemmas.Bool.Decides.{nat_tests}
 use Rattle.rules.specs.Counting.{every}
 use Rattle.rules.specs.Table.{Table, table_refusal, job_count, resource_count, units_of}
 use Rattle.rules.specs.State.{Entry, Started, State, started_jobs, waiting_jobs, held_in}
-use Rattle.rules.specs.WellFormed.{writable, all_listed, none_twice, levels_rise, in_order, within_needs, within_units, well_kept, well_formed}
-use Rattle.rules.proofs.Choices.{both_parts}
+use Rattle.rules.specs.WellFormed.{all_listed, none_twice, levels_rise, in_order, within_needs, within_units, well_formed}
 use Rattle.rules.proofs.Counts.{every_below_at}
 use Rattle.rules.proofs.Order.{Live}
 
@@ -21,22 +22,7 @@ pub record Well (t : Table) (s : State) : Type 0 where
 
 pub well_parts : (t : Table) (s : State) → well_formed t s ≡ true → Well t s
 unfolding well_formed
-well_parts t s h =
-    let a = both_parts (writable t) (well_kept t s) h in
-    let f = both_parts (all_listed t s && none_twice s && levels_rise t s.stack && in_order t s.waiting && within_needs t s.stack) (within_units t s.stack) a.1 in
-    let e = both_parts (all_listed t s && none_twice s && levels_rise t s.stack && in_order t s.waiting) (within_needs t s.stack) f.0 in
-    let d = both_parts (all_listed t s && none_twice s && levels_rise t s.stack) (in_order t s.waiting) e.0 in
-    let c = both_parts (all_listed t s && none_twice s) (levels_rise t s.stack) d.0 in
-    let b = both_parts (all_listed t s) (none_twice s) c.0 in
-    record {
-      table = eqb-true (table_refusal t) 0 a.0;
-      listed = b.0;
-      once = b.1;
-      rising = c.1;
-      order = d.1;
-      needs = e.1;
-      units = f.1;
-    }
+well_parts t s h = grind (arith, nat_tests)
 
 pub well_formed_lem : (t : Table) (s : State) → Well t s → well_formed t s ≡ true
 unfolding well_formed
@@ -70,19 +56,19 @@ live_all t s w = (up s.stack w.listed, along s.waiting (rest s.stack w.listed))
     up : (fs : List Started) → every is (started_jobs fs ++ waiting_jobs s.waiting) ≡ true → All (λ f. Live t s f.entry) fs
     up [] h = tt
     up (f ∷ fs) h =
-        let p = both_parts (is f.entry.who) (every is (started_jobs fs ++ waiting_jobs s.waiting)) h in
-        (record { listed = ltb-true f.entry.who (job_count t) p.0 }, up fs p.1)
+        let p = and_parts _ _ h in
+        (record { listed = ltb-true _ _ p.0 }, up fs p.1)
 
     rest : (fs : List Started) → every is (started_jobs fs ++ waiting_jobs s.waiting) ≡ true → every is (waiting_jobs s.waiting) ≡ true
     rest [] h = h
-    rest (f ∷ fs) h = rest fs (both_parts (is f.entry.who) (every is (started_jobs fs ++ waiting_jobs s.waiting)) h).1
+    rest (f ∷ fs) h = rest fs (and_parts _ _ h).1
 
     along : (ks : List Entry) → every is (waiting_jobs ks) ≡ true → All (Live t s) ks
     along [] h = tt
     along (k ∷ ks) h =
-        let p = both_parts (is k.who) (every is (waiting_jobs ks)) h in
-        (record { listed = ltb-true k.who (job_count t) p.0 }, along ks p.1)
+        let p = and_parts _ _ h in
+        (record { listed = ltb-true _ _ p.0 }, along ks p.1)
 
 -- the units held of a resource don't exceed its units
 pub held_units : (t : Table) (s : State) → Well t s → (r : ℕ) → r < resource_count t → held_in s.stack r ≤ units_of t r
-held_units t s w r l = leb-true (held_in s.stack r) (units_of t r) (every_below_at (resource_count t) (λ r. leb (held_in s.stack r) (units_of t r)) w.units r l)
+held_units t s w r l = leb-true _ _ (every_below_at (resource_count t) (λ r. leb (held_in s.stack r) (units_of t r)) w.units r l)

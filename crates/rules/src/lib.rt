@@ -1,5 +1,5 @@
 // The limits of document 01, "Numbers", for the array types of the crates above. The policy itself is in specs/.
-// Each function ties a limit of the code to the one that the definitions use, so that neither changes alone.
+// `limits` ties each limit of the code to the one that the definitions use, so that neither changes alone.
 #![tactic(auto)]
 
 ghost use Rattle.std.specs.Prelude.{◌≡◌};
@@ -11,20 +11,10 @@ pub const RESOURCES: usize = 8;
 
 pub const UNITS: u16 = 1000;
 
-fn jobs() -> usize
-    ensures { result ≡ max_jobs }
+fn limits() -> (usize, usize, u16)
+    ensures jobs { result.0 ≡ max_jobs }
+    ensures resources { result.1 ≡ max_resources }
+    ensures units { result.2 ≡ max_units }
 {
-    JOBS
-}
-
-fn resources() -> usize
-    ensures { result ≡ max_resources }
-{
-    RESOURCES
-}
-
-fn units() -> u16
-    ensures { result ≡ max_units }
-{
-    UNITS
+    (JOBS, RESOURCES, UNITS)
 }
