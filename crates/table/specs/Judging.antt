@@ -1,16 +1,13 @@
 -- Document 01: the judging of a table that is held in arrays. Counts out of range 2, then 4 (entries past a count that are not zero
 -- included), then 5.
-use Rattle.std.specs.Prelude.{Bool, not, ◌&&◌, [], ◌∷◌, ℕ, zero, suc, take, drop, eqb}
+use Rattle.std.specs.Prelude.{Bool, not, ◌&&◌, [], ◌∷◌, ℕ, take, drop, eqb, Result, Ok, Err}
 use Rattle.rules.specs.Choice.{refuse, first_bad}
 use Rattle.rules.specs.Counting.{every}
 use Rattle.rules.specs.Table.{counts_good, values_good, stack_good, table_checks, worst}
 use Rattle.table.specs.declared.Job.{Job}
 use Rattle.table.specs.declared.Table.{Table}
-use Rattle.table.specs.declared.Judged.{Judged}
-use Rattle.table.specs.declared.Judged.TheVariants.{Good, Bad}
-use Rattle.table.specs.declared.Worst.{Worst}
-use Rattle.table.specs.declared.Worst.TheVariants.{Sum, Refused}
-use Rattle.table.specs.Refusals.{number_of}
+use Rattle.table.specs.declared.Refusal.{Refusal}
+use Rattle.table.specs.Refusals.{number_of, when_fit}
 use Rattle.table.specs.Arrays.{table_of}
 
 abbrev pub is_zero : ℕ → Bool
@@ -42,25 +39,12 @@ unfoldable pub table_judged : Table → ℕ
 table_judged t = first_bad (table_checks (counts_fit t) (values_fit t) (stack_good (table_of t)))
 
 -- The number of each judgement.
-abbrev pub judged_number : Judged → ℕ
-judged_number Good = 0
-judged_number (Bad r) = number_of r
+abbrev pub judged_number : Result (Unit {0}) Refusal → ℕ
+judged_number (Ok u) = 0
+judged_number (Err r) = number_of r
 
 -- ---- asking a table's worst stack
 
--- What is answered: a refusal's number, or the sum.
-pub data Asked : Type 0 where
-  refused : ℕ → Asked
-  sum : ℕ → Asked
-
-abbrev pub when_fit : ℕ → ℕ → Asked
-when_fit zero w = sum w
-when_fit (suc n) w = refused (suc n)
-
 -- Asking a table's worst stack gives 2 or 4, else the sum, even one above the stack size.
-unfoldable pub worst_answer : Table → Asked
+unfoldable pub worst_answer : Table → Result ℕ ℕ
 worst_answer t = when_fit (first_bad (refuse (not (counts_fit t)) 2 ∷ refuse (not (values_fit t)) 4 ∷ [])) (worst (table_of t))
-
-abbrev pub worst_said : Worst → Asked
-worst_said (Sum w) = sum w
-worst_said (Refused r) = refused (number_of r)

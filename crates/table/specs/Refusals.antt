@@ -1,6 +1,7 @@
 -- Document 01, "Refusal numbers": the number of each refusal.
-use Rattle.std.specs.Prelude.{ℕ}
+use Rattle.std.specs.Prelude.{ℕ, zero, suc, Result, Ok, Err}
 use Rattle.table.specs.declared.Refusal.{Refusal}
+use Rattle.table.specs.declared.RefusedAt.{RefusedAt}
 use Rattle.table.specs.declared.Refusal.TheVariants.{InputEnds, WrongTagOrCount, WrongLength, ValueOutOfRange, StackTooSmall, BufferTooShort}
 use Rattle.table.specs.declared.Refusal.TheVariants.{NotWellFormed, WrongMemoryLength, NoSuchJob, AlreadyActive, NotRunning, NoSuchResource}
 use Rattle.table.specs.declared.Refusal.TheVariants.{AmountZero, AboveNeed, AboveFree, AboveHeld, StillHolds, HoldsNothing}
@@ -42,3 +43,28 @@ number_of AboveHeld = 19
 number_of StillHolds = 20
 -- release all while holding nothing
 number_of HoldsNothing = 21
+
+-- ---- answers in numbers
+
+-- An answer, with a refusal's number in the place of its word.
+abbrev pub in_numbers : {A : Type 0} → Result A Refusal → Result A ℕ
+in_numbers (Ok x) = Ok x
+in_numbers (Err r) = Err (number_of r)
+
+-- A refusal's number, or, where it is 0, the answer.
+abbrev pub when_fit : {A : Type 0} → ℕ → A → Result A ℕ
+when_fit zero x = Ok x
+when_fit (suc n) x = Err (suc n)
+
+-- With a reading refusal goes a place.
+abbrev pub refused_at : {A : Type 0} → ℕ → ℕ → Result A (ℕ × ℕ)
+refused_at n at = Err (n, at)
+
+-- A reading's refusal in numbers.
+abbrev pub numbers_of : RefusedAt → ℕ × ℕ
+numbers_of e = (number_of e.refusal, e.place)
+
+-- A refusal's number at its place, or, where it is 0, what was read.
+abbrev pub or_refused : {A : Type 0} → ℕ → ℕ → Result A (ℕ × ℕ) → Result A (ℕ × ℕ)
+or_refused zero at r = r
+or_refused (suc n) at r = refused_at (suc n) at

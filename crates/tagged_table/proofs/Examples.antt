@@ -6,7 +6,8 @@ use Rattle.rules.specs.Counting.{max_below, sum_below, none_above}
 use Rattle.rules.specs.Table.{worst}
 use Rattle.rules.specs.Examples.{station}
 use Rattle.field.specs.Field.{framed}
-use Rattle.tagged_table.specs.Form.{table_bytes, stands, wants, good, grown, judged, took, refused_at, ended, read_fields, table_reading}
+use Rattle.table.specs.Refusals.{refused_at}
+use Rattle.tagged_table.specs.Form.{table_bytes, stands, wants, good, grown, judged, took, ended, read_fields, table_reading}
 use Rattle.tagged_table.specs.Examples.{station_bytes}
 
 pub station_read : table_reading (station_bytes 90) ≡ took 41 (station 90)

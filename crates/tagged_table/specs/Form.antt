@@ -1,9 +1,10 @@
 -- Document 01, "The tagged form": a table, its fields in order, how many of each, their lengths and ranges; read and written.
-use Rattle.std.specs.Prelude.{Bool, true, false, ◌&&◌, List, [], ◌∷◌, ◌++◌, ℕ, zero, suc, ◌+◌, ◌*◌, length, get_or, drop, ltb, eqb}
+use Rattle.std.specs.Prelude.{Bool, true, false, ◌&&◌, List, [], ◌∷◌, ◌++◌, ℕ, zero, suc, ◌+◌, ◌*◌, length, get_or, drop, ltb, eqb, Result, Ok}
 use Rattle.rules.specs.Limits.{max_jobs, max_resources, max_units, max_bytes}
 use Rattle.rules.specs.Choice.{pick}
 use Rattle.rules.specs.Counting.{within}
 use Rattle.rules.specs.Table.{Job, Table, job_good, stack_good}
+use Rattle.table.specs.Refusals.{refused_at, or_refused}
 use Rattle.field.specs.Field.{two, pair_at, field, tag_of, length_of, framed}
 
 abbrev pub version : ℕ
@@ -114,23 +115,21 @@ or_else (suc n) k = suc n
 unfoldable pub judged : Sofar → List ℕ → ℕ
 judged p b = or_else (framed (stands p) (wants p) b) (pick (good p (tag_of b) (drop 3 b)) 0 4)
 
--- What reading answers: how many bytes it took and the table, or a refusal's number and place.
-pub data Reading : Type 0 where
-  took : ℕ → Table → Reading
-  refused_at : ℕ → ℕ → Reading
+-- What reading answers: how many bytes it took and the table, or a refusal's number and place (`refused_at`).
+abbrev pub Reading : Type 0
+Reading = Result (ℕ × Table) (ℕ × ℕ)
+
+abbrev pub took : ℕ → Table → Reading
+took n t = Ok (n, t)
 
 -- After the end field: 5, with the offset after it, or the table.
 unfoldable pub ended : Sofar → ℕ → Reading
 ended p at = pick (stack_good p.table) (took at p.table) (refused_at 5 at)
 
-abbrev pub when_good : ℕ → ℕ → Reading → Reading
-when_good zero at r = r
-when_good (suc n) at r = refused_at (suc n) at
-
 -- The field at the front of b, which stands at `at`; `go` reads on behind it. The first bad field decides.
 abbrev pub step : Sofar → List ℕ → ℕ → (Sofar → List ℕ → ℕ → Reading) → Reading
 step p b at go =
-    when_good (judged p b) at
+    or_refused (judged p b) at
     (pick (eqb (tag_of b) 5) (ended p (at + 3)) (go (grown p (tag_of b) (drop 3 b)) (drop (3 + length_of b) b) (at + (3 + length_of b))))
 
 -- At most n fields.

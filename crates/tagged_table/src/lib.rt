@@ -1,25 +1,13 @@
-// What reading and writing a station's table in its tagged form answer.
+// Reading and writing a station's table in its tagged form. Writing answers `Result<usize, Refusal>`, the number of bytes written. Both are
+// defined in specs/, and have no code yet.
 #![tactic(auto)]
 
-use table::{Refusal, Table};
+use table::{RefusedAt, Table};
 
-// How a reading ended: the bytes that it took, or the refusal and its place.
-#[derive(Drop)]
-pub enum End {
-    Read(usize),
-    Refused { refusal: Refusal, place: usize },
-}
-
-// A table and how its reading ended; an enum can't hold the table's arrays.
-#[derive(Drop)]
+/// What reading answers: how it ended, with the bytes that it took, and the table.
+#[derive(Debug, Drop, PartialEq, Eq)]
 pub struct TableRead {
-    pub end: End,
+    pub end: Result<usize, RefusedAt>,
+    // Beside the end, and not in its `Ok`: a refused reading hands back a table of zeros (`Answers.table`, specs/Answers).
     pub table: Table,
-}
-
-// What writing a table answers: the number of bytes written, or the refusal.
-#[derive(Drop)]
-pub enum TableWritten {
-    Bytes(usize),
-    Refused(Refusal),
 }
