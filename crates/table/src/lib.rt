@@ -6,7 +6,7 @@ ghost use Rattle.table.specs.Arrays.{Shaped};
 
 use rules::{JOBS, RESOURCES};
 
-/// A job's level. A level and a job's number are both one byte, and neither is ever passed for the other.
+/// A job's level. A level and a job's number are both one byte, in types of their own, so that neither is ever passed for the other.
 #[derive(Clone, Copy, Debug, PartialEq, Eq, PartialOrd, Ord)]
 pub struct Level(pub u8);
 
@@ -19,6 +19,7 @@ pub struct JobNo(pub u8);
 pub struct Job {
     pub level: Level,
     pub frame: u16,
+    // An array, as those of `Table`.
     pub needs: [u16; RESOURCES],
 }
 
@@ -111,7 +112,8 @@ pub struct RefusedAt {
     pub place: usize,
 }
 
-/// The same table, with what its types say of it, for a caller that has none of it.
+/// The same table, with what its types say of it, for a caller that has none of it. It hands the table back, as it always did, so that
+/// an edit can hand back another.
 pub fn shape(t: Table) -> Table
     ensures value { result ≡ t }
     ensures shaped { Shaped t }

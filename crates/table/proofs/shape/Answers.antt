@@ -1,5 +1,5 @@
 -- Owning a table tells the lengths of its arrays and the bounds of its numbers: the table's own are found by search, and each job's stand
--- where the array of jobs is owned, one after the other.
+-- where the array of jobs is owned, one after the other. (The check alone leaves this goal open: no search goes into an array of structs.)
 use Rattle.std.proofs.Common.{◌≡◌, List, [], ◌∷◌, ℕ, zero, suc, ◌≤◌, ◌<◌, length, get_or, rules, arith}
 use native.Mathlib.Nat.{not-suc-le-zero, le_of_suc-le-suc}
 use mir.Val.{Val}
