@@ -19,10 +19,11 @@ pub struct JobNo(pub u8);
 pub struct Job {
     pub level: Level,
     pub frame: u16,
-    // An array, as those of `Table`.
+    // An array, as those of `Table`, whose `resource_count` is its count.
     pub needs: [u16; RESOURCES],
 }
 
+/// A job of zeros. Written out, as that of `Table`: a derived `Default` says of an array that each element is a default, and no more.
 impl Default for Job {
     ghost use Rattle.table.specs.Arrays.{job_of_zeros};
 
@@ -43,8 +44,8 @@ impl Default for Job {
 #[derive(Debug, Drop, PartialEq, Eq)]
 pub struct Table {
     pub size: u16,
-    // Arrays with their counts beside them, and no `Vec`: a station has no heap, and `blank` (specs/Judging) refuses with 4 what stands past
-    // a count.
+    // Arrays with their counts beside them: a station has no heap, so no `Vec`; and `shape` takes, and `blank` (specs/Judging) refuses with 4,
+    // tables with something past a count, which an `ArrayVec` can't hold.
     pub units: [u16; RESOURCES],
     pub resource_count: u8,
     pub jobs: [Job; JOBS],
@@ -112,11 +113,11 @@ pub struct RefusedAt {
     pub place: usize,
 }
 
-/// The same table, with what its types say of it, for a caller that has none of it. It hands the table back, as it always did, so that
-/// an edit can hand back another.
-pub fn shape(t: Table) -> Table
-    ensures value { result ≡ t }
-    ensures shaped { Shaped t }
+/// The same table, with what its types say of it, for a caller that has none of it. It takes the table and hands it back, since only what
+/// is owned tells the lengths of its arrays.
+pub fn shape(table: Table) -> Table
+    ensures value { result ≡ table }
+    ensures shaped { Shaped table }
 {
-    t
+    table
 }

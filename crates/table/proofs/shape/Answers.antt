@@ -30,7 +30,7 @@ each_at R Q h (x ∷ xs) (u ∷ us) s d (suc k) l = each_at R Q h xs us s.1 d k 
 
 pub returns-clause-shaped : goal.returns-clause-shaped
 returns-clause-shaped c =
-    let t = c.args.t in
+    let t = c.args.table in
     let all = owed Table.the_type Laws.the_laws t _ c.well_formed.0 in
     let n : length t.jobs ≡ max_jobs = search rules in
     let job : (Q : Declared.Job → Type 0) → ((x : Declared.Job) (vs : List Val) → Is Job.the_row x vs → Q x)
