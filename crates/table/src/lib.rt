@@ -6,6 +6,10 @@ ghost use Rattle.table.specs.Arrays.{Shaped};
 
 use rules::{JOBS, RESOURCES};
 
+mod judge;
+mod listed;
+mod worst;
+
 /// A job's level. A level and a job's number are both one byte, in types of their own, so that neither is ever passed for the other.
 #[derive(Clone, Copy, Debug, PartialEq, Eq, PartialOrd, Ord)]
 pub struct Level(pub u8);

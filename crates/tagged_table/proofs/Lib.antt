@@ -1,1 +1,15 @@
+-- What is proved of a table's tagged form, each file over those before it.
 pub mod Examples
+pub mod Walk
+pub mod Written
+pub mod Longest
+pub mod ReadBack
+pub mod Ends
+pub mod WriteBack
+pub mod Needs
+pub mod Stored
+pub mod Left
+pub mod Put
+pub mod Judged
+pub mod Arrays
+pub mod Unique

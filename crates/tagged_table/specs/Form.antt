@@ -48,19 +48,25 @@ abbrev pub by_tag : {A : Type 0} → ℕ → A → A → A → A → A → A →
 by_tag tag a b c d e other = pick (eqb tag 1) a (pick (eqb tag 2) b (pick (eqb tag 3) c (pick (eqb tag 4) d (pick (eqb tag 5) e other))))
 
 -- 2: a tag that can't stand here. The order is 01, 02, then 03 up to 8 times, then 04 up to 32 times and once at least, then 05.
-unfoldable pub stands : Sofar → ℕ → Bool
-stands p tag =
+abbrev pub may_follow : ℕ → ℕ → ℕ → ℕ → Bool
+may_follow last resources jobs tag =
     by_tag tag
-    (within 0 0 p.last)
-    (within 1 1 p.last)
-    (within 2 3 p.last && ltb (length p.table.units) max_resources)
-    (within 2 4 p.last && ltb (length p.table.jobs) max_jobs)
-    (within 4 4 p.last)
+    (within 0 0 last)
+    (within 1 1 last)
+    (within 2 3 last && ltb resources max_resources)
+    (within 2 4 last && ltb jobs max_jobs)
+    (within 4 4 last)
     false
 
+unfoldable pub stands : Sofar → ℕ → Bool
+stands p tag = may_follow p.last (length p.table.units) (length p.table.jobs) tag
+
 -- 3: wrong length for the tag. The length that each tag wants.
+abbrev pub length_wanted : ℕ → ℕ → ℕ
+length_wanted resources tag = by_tag tag 1 2 2 (3 + 2 * resources) 0 0
+
 unfoldable pub wants : Sofar → ℕ → ℕ
-wants p tag = by_tag tag 1 2 2 (3 + 2 * length p.table.units) 0 0
+wants p tag = length_wanted (length p.table.units) tag
 
 -- n numbers of two bytes each.
 abbrev pub pairs : ℕ → List ℕ → List ℕ

@@ -1,0 +1,7 @@
+-- What is proved of an event, each file over those before it.
+pub mod Reading
+pub mod ReadBack
+pub mod Fitting
+pub mod WriteBack
+pub mod Words
+pub mod Unique

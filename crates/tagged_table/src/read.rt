@@ -1,0 +1,171 @@
+// Reading a table: the walk over its fields.
+ghost use Rattle.std.specs.Prelude.{◌≡◌, ℕ, ◌≤◌, ◌<◌, length, drop, Result, Ok, Err, OnOk};
+ghost use Rattle.rules.specs.Choice.{pick};
+ghost use Rattle.rules.specs.Limits.{max_resources, max_jobs};
+ghost use Rattle.rules.specs.Table.{job_good};
+ghost use Rattle.table.specs.Arrays.{table_of, arrays_of, table_of_zeros};
+ghost use Rattle.tagged_table.specs.Form.{may_follow, length_wanted, table_reading};
+ghost use Rattle.tagged_table.specs.Answers.{end_said, end_of, table_in, Answers};
+ghost use Rattle.tagged_table.specs.Parts.{job_answer, end_answer, Stores};
+
+use crate::{END_TAG, JOB_TAG, RESOURCE_TAG, SIZE_TAG, TableRead, VERSION, VERSION_TAG};
+use field::{Head, Place};
+use rules::{JOBS, RESOURCES, UNITS};
+use table::{Job, Level, Refusal, RefusedAt, Table};
+
+/// A refusal, at its place.
+fn refused<T>(refusal: Refusal, place: usize) -> Result<T, RefusedAt>
+    ensures { result ≡ Err (record { refusal = refusal; place = place }) }
+{
+    Err(RefusedAt { refusal, place })
+}
+
+/// Whether a field with this tag may stand after the last one, with so many resources and jobs read.
+fn may_follow(last: u8, resources: u8, jobs: u8, tag: u8) -> bool
+    ensures { result ≡ may_follow last resources jobs tag }
+{
+    match tag {
+        VERSION_TAG => last == 0,
+        SIZE_TAG => last == VERSION_TAG,
+        RESOURCE_TAG => (SIZE_TAG..=RESOURCE_TAG).contains(&last)
+            && usize::from(resources) < RESOURCES,
+        JOB_TAG => (SIZE_TAG..=JOB_TAG).contains(&last) && usize::from(jobs) < JOBS,
+        END_TAG => last == JOB_TAG,
+        _ => false,
+    }
+}
+
+/// The length that a field with this tag has, with so many resources read.
+fn length_wanted(resources: u8, tag: u8) -> u16
+    ensures { result ≡ length_wanted resources tag }
+{
+    match tag {
+        VERSION_TAG => 1,
+        SIZE_TAG | RESOURCE_TAG => 2,
+        JOB_TAG => 3 + 2 * u16::from(resources),
+        _ => 0,
+    }
+}
+
+/// The job in the value of its field, which stands at `place`: 4 if its level, its frame or a need is out of range.
+fn read_job(units: &[u16], value: &Place, place: usize) -> Result<Job, RefusedAt>
+    requires { length units.now ≤ max_resources }
+    ensures { result ≡ job_answer units.now (drop value.now.at value.now.bytes.now) place }
+{
+    let mut job = Job {
+        level: Level(value.byte(0)),
+        frame: value.pair(1),
+        needs: [0; RESOURCES],
+    };
+    if job.level.0 == 0 || job.frame == 0 {
+        return refused(Refusal::ValueOutOfRange, place);
+    }
+    'needs: {
+        for (r, &most) in units.iter().enumerate() {
+            let need = value.pair(3 + 2 * r as u16);
+            if most < need {
+                break 'needs refused(Refusal::ValueOutOfRange, place);
+            }
+            job.needs[r] = need;
+        }
+        Ok(job)
+    }
+}
+
+/// Stores what a field's value gives, for a field that stands at `place`: 4 if it is out of range.
+fn store(table: &mut Table, tag: u8, value: &Place, place: usize) -> Result<(), RefusedAt>
+    requires room_for_units { tag ≡ 3 → table.old.resource_count < max_resources }
+    requires room_for_a_job { tag ≡ 4 → table.old.job_count < max_jobs }
+    requires few { table.old.resource_count ≤ max_resources }
+    ensures { Stores table.old table.new tag (drop value.now.at value.now.bytes.now) place result }
+{
+    match tag {
+        VERSION_TAG => {
+            if value.byte(0) != VERSION {
+                return refused(Refusal::ValueOutOfRange, place);
+            }
+        }
+        SIZE_TAG => {
+            let size = value.pair(0);
+            if size == 0 {
+                return refused(Refusal::ValueOutOfRange, place);
+            }
+            table.size = size;
+        }
+        RESOURCE_TAG => {
+            let units = value.pair(0);
+            if units == 0 || units > UNITS {
+                return refused(Refusal::ValueOutOfRange, place);
+            }
+            table.units[usize::from(table.resource_count)] = units;
+            table.resource_count += 1;
+        }
+        JOB_TAG => {
+            let job = read_job(table.listed_units(), value, place)?;
+            table.jobs[usize::from(table.job_count)] = job;
+            table.job_count += 1;
+        }
+        END_TAG => {}
+        _ => return refused(Refusal::ValueOutOfRange, place),
+    }
+    Ok(())
+}
+
+/// What the end field answers, with the place after it: 5 if the worst stack is greater than the stack size.
+fn ended(table: &Table, place: usize) -> Result<usize, RefusedAt>
+    ensures { result ≡ end_answer (table_of table.now) place }
+{
+    if table.largest_frames() > u32::from(table.size) {
+        return refused(Refusal::StackTooSmall, place);
+    }
+    Ok(place)
+}
+
+/// The walk over the fields: the first bad one decides. The table is all zeros before it.
+fn walk(input: &[u8], table: &mut Table) -> Result<usize, RefusedAt>
+    requires { table.old ≡ table_of_zeros }
+    ensures end { end_said result ≡ end_of (table_reading input.now) }
+    ensures read { OnOk result (table.new ≡ arrays_of (table_in (table_reading input.now))) }
+{
+    let mut last = 0;
+    let mut at = 0;
+    'walk: loop {
+        let field = Place { bytes: input, at };
+        let Some(Head { tag, length }) = field.header() else {
+            break 'walk refused(Refusal::InputEnds, at);
+        };
+        if !may_follow(last, table.resource_count, table.job_count, tag) {
+            break 'walk refused(Refusal::WrongTagOrCount, at);
+        }
+        if length != length_wanted(table.resource_count, tag) {
+            break 'walk refused(Refusal::WrongLength, at);
+        }
+        let Some(start) = field.value(length) else {
+            break 'walk refused(Refusal::InputEnds, field.at);
+        };
+        let value = Place {
+            bytes: input,
+            at: start,
+        };
+        if let Err(bad) = store(table, tag, &value, at) {
+            break 'walk Err(bad);
+        }
+        if tag == END_TAG {
+            break 'walk ended(table, start);
+        }
+        last = tag;
+        at = start + usize::from(length);
+    }
+}
+
+/// Reads the table at the front of the input. Bytes after its end field are left unread; a refused reading hands back a table of zeros.
+pub fn read_table(input: &[u8]) -> TableRead
+    ensures { Answers result (table_reading input.now) }
+{
+    let mut table = Table::default();
+    let end = walk(input, &mut table);
+    if end.is_err() {
+        table = Table::default();
+    }
+    TableRead { end, table }
+}
