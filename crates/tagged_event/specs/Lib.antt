@@ -1,2 +1,3 @@
 pub mod Form
 pub mod Answers
+pub mod Kinds

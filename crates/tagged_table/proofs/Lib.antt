@@ -8,6 +8,7 @@ pub mod Ends
 pub mod WriteBack
 pub mod Needs
 pub mod Stored
+pub mod Tags
 pub mod Left
 pub mod Put
 pub mod Judged

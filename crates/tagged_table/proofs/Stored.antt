@@ -104,7 +104,7 @@ module _ (old : Table) (v : List ℕ) (place : ℕ) where
   unfolding good
   units_refused tag i h new = rw i (none_stored new 3 (λ p e. grind (arith, nat_tests)))
 
-  -- ---- a job, the end, and no field
+  -- ---- a job, and the end
 
   answer_known : (us : List ℕ) → us ≡ take old.resource_count old.units → (p : Sofar) → old ≡ arrays_of p.table → us ≡ p.table.units
   answer_known us q p e = q ∙ ap (λ (t : Table). take t.resource_count t.units) e ∙ take-append_seam p.table.units _
@@ -144,7 +144,3 @@ module _ (old : Table) (v : List ℕ) (place : ℕ) where
   pub end_stored : (tag : ℕ) → tag ≡ 5 → Stores old old tag v place (Ok tt)
   unfolding good grown
   end_stored tag i = rw i (all_stored old 5 (λ p e. (refl, e)))
-
-  pub no_field : (tag : ℕ) → (tag ≡ 1 → ⊥) → (tag ≡ 2 → ⊥) → (tag ≡ 3 → ⊥) → (tag ≡ 4 → ⊥) → (tag ≡ 5 → ⊥) → (new : Table) → Stores old new tag v place refused
-  unfolding good
-  no_field tag a b c d f new = none_stored new tag (λ p e. grind (arith, nat_tests))

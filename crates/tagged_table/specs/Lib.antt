@@ -1,4 +1,5 @@
 pub mod Form
 pub mod Answers
 pub mod Examples
+pub mod Tags
 pub mod Parts

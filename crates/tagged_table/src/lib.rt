@@ -2,6 +2,7 @@
 #![tactic(auto)]
 
 mod read;
+mod tag;
 mod write;
 
 pub use read::read_table;
@@ -16,15 +17,5 @@ pub struct TableRead {
     pub table: Table,
 }
 
-// The tags of a table's fields.
-const VERSION_TAG: u8 = 1;
-
-const SIZE_TAG: u8 = 2;
-
-const RESOURCE_TAG: u8 = 3;
-
-const JOB_TAG: u8 = 4;
-
-const END_TAG: u8 = 5;
-
+// The version that is read and written.
 const VERSION: u8 = 1;

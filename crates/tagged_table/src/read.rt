@@ -5,10 +5,12 @@ ghost use Rattle.rules.specs.Limits.{max_resources, max_jobs};
 ghost use Rattle.rules.specs.Table.{job_good};
 ghost use Rattle.table.specs.Arrays.{table_of, arrays_of, table_of_zeros};
 ghost use Rattle.tagged_table.specs.Form.{may_follow, length_wanted, table_reading};
+ghost use Rattle.tagged_table.specs.Tags.{number_of_tag, number_of_last};
 ghost use Rattle.tagged_table.specs.Answers.{end_said, end_of, table_in, Answers};
 ghost use Rattle.tagged_table.specs.Parts.{job_answer, end_answer, Stores};
 
-use crate::{END_TAG, JOB_TAG, RESOURCE_TAG, SIZE_TAG, TableRead, VERSION, VERSION_TAG};
+use crate::tag::Tag;
+use crate::{TableRead, VERSION};
 use field::{Head, Place};
 use rules::{JOBS, RESOURCES, UNITS};
 use table::{Job, Level, Refusal, RefusedAt, Table};
@@ -21,29 +23,31 @@ fn refused<T>(refusal: Refusal, place: usize) -> Result<T, RefusedAt>
 }
 
 /// Whether a field with this tag may stand after the last one, with so many resources and jobs read.
-fn may_follow(last: u8, resources: u8, jobs: u8, tag: u8) -> bool
-    ensures { result ≡ may_follow last resources jobs tag }
+fn may_follow(last: Option<Tag>, resources: u8, jobs: u8, tag: Tag) -> bool
+    ensures { result ≡ may_follow (number_of_last last) resources jobs (number_of_tag tag) }
 {
     match tag {
-        VERSION_TAG => last == 0,
-        SIZE_TAG => last == VERSION_TAG,
-        RESOURCE_TAG => (SIZE_TAG..=RESOURCE_TAG).contains(&last)
-            && usize::from(resources) < RESOURCES,
-        JOB_TAG => (SIZE_TAG..=JOB_TAG).contains(&last) && usize::from(jobs) < JOBS,
-        END_TAG => last == JOB_TAG,
-        _ => false,
+        Tag::Version => last.is_none(),
+        Tag::Size => matches!(last, Some(Tag::Version)),
+        Tag::Resource => {
+            matches!(last, Some(Tag::Size | Tag::Resource)) && usize::from(resources) < RESOURCES
+        }
+        Tag::Job => {
+            matches!(last, Some(Tag::Size | Tag::Resource | Tag::Job)) && usize::from(jobs) < JOBS
+        }
+        Tag::End => matches!(last, Some(Tag::Job)),
     }
 }
 
 /// The length that a field with this tag has, with so many resources read.
-fn length_wanted(resources: u8, tag: u8) -> u16
-    ensures { result ≡ length_wanted resources tag }
+fn length_wanted(resources: u8, tag: Tag) -> u16
+    ensures { result ≡ length_wanted resources (number_of_tag tag) }
 {
     match tag {
-        VERSION_TAG => 1,
-        SIZE_TAG | RESOURCE_TAG => 2,
-        JOB_TAG => 3 + 2 * u16::from(resources),
-        _ => 0,
+        Tag::Version => 1,
+        Tag::Size | Tag::Resource => 2,
+        Tag::Job => 3 + 2 * u16::from(resources),
+        Tag::End => 0,
     }
 }
 
@@ -73,26 +77,26 @@ fn read_job(units: &[u16], value: &Place, place: usize) -> Result<Job, RefusedAt
 }
 
 /// Stores what a field's value gives, for a field that stands at `place`: 4 if it is out of range.
-fn store(table: &mut Table, tag: u8, value: &Place, place: usize) -> Result<(), RefusedAt>
-    requires room_for_units { tag ≡ 3 → table.old.resource_count < max_resources }
-    requires room_for_a_job { tag ≡ 4 → table.old.job_count < max_jobs }
+fn store(table: &mut Table, tag: Tag, value: &Place, place: usize) -> Result<(), RefusedAt>
+    requires room_for_units { number_of_tag tag ≡ 3 → table.old.resource_count < max_resources }
+    requires room_for_a_job { number_of_tag tag ≡ 4 → table.old.job_count < max_jobs }
     requires few { table.old.resource_count ≤ max_resources }
-    ensures { Stores table.old table.new tag (drop value.now.at value.now.bytes.now) place result }
+    ensures { Stores table.old table.new (number_of_tag tag) (drop value.now.at value.now.bytes.now) place result }
 {
     match tag {
-        VERSION_TAG => {
+        Tag::Version => {
             if value.byte(0) != VERSION {
                 return refused(Refusal::ValueOutOfRange, place);
             }
         }
-        SIZE_TAG => {
+        Tag::Size => {
             let size = value.pair(0);
             if size == 0 {
                 return refused(Refusal::ValueOutOfRange, place);
             }
             table.size = size;
         }
-        RESOURCE_TAG => {
+        Tag::Resource => {
             let units = value.pair(0);
             if units == 0 || units > UNITS {
                 return refused(Refusal::ValueOutOfRange, place);
@@ -100,13 +104,12 @@ fn store(table: &mut Table, tag: u8, value: &Place, place: usize) -> Result<(), 
             table.units[usize::from(table.resource_count)] = units;
             table.resource_count += 1;
         }
-        JOB_TAG => {
+        Tag::Job => {
             let job = read_job(table.listed_units(), value, place)?;
             table.jobs[usize::from(table.job_count)] = job;
             table.job_count += 1;
         }
-        END_TAG => {}
-        _ => return refused(Refusal::ValueOutOfRange, place),
+        Tag::End => {}
     }
     Ok(())
 }
@@ -127,12 +130,15 @@ fn walk(input: &[u8], table: &mut Table) -> Result<usize, RefusedAt>
     ensures end { end_said result ≡ end_of (table_reading input.now) }
     ensures read { OnOk result (table.new ≡ arrays_of (table_in (table_reading input.now))) }
 {
-    let mut last = 0;
+    let mut last = None;
     let mut at = 0;
     'walk: loop {
         let field = Place { bytes: input, at };
         let Some(Head { tag, length }) = field.header() else {
             break 'walk refused(Refusal::InputEnds, at);
+        };
+        let Ok(tag) = Tag::try_from(tag) else {
+            break 'walk refused(Refusal::WrongTagOrCount, field.at);
         };
         if !may_follow(last, table.resource_count, table.job_count, tag) {
             break 'walk refused(Refusal::WrongTagOrCount, at);
@@ -150,10 +156,10 @@ fn walk(input: &[u8], table: &mut Table) -> Result<usize, RefusedAt>
         if let Err(bad) = store(table, tag, &value, at) {
             break 'walk Err(bad);
         }
-        if tag == END_TAG {
+        if let Tag::End = tag {
             break 'walk ended(table, start);
         }
-        last = tag;
+        last = Some(tag);
         at = start + usize::from(length);
     }
 }

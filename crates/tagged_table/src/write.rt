@@ -10,7 +10,8 @@ ghost use Rattle.field.specs.Field.{two, field};
 ghost use Rattle.tagged_table.specs.Form.{each, resource_bytes, job_bytes, table_bytes};
 ghost use Rattle.tagged_table.specs.Answers.{write_answer, write_out};
 
-use crate::{END_TAG, JOB_TAG, RESOURCE_TAG, SIZE_TAG, VERSION, VERSION_TAG};
+use crate::VERSION;
+use crate::tag::Tag;
 use field::{Head, Stored};
 use table::{Job, Refusal, Table};
 
@@ -31,7 +32,7 @@ fn put_resources(units: &[u16], out: &mut [u8], at: usize) -> usize
 {
     let mut end = at;
     for &number in units {
-        put_number(out, end, RESOURCE_TAG, number);
+        put_number(out, end, Tag::Resource as u8, number);
         end += 5;
     }
     end
@@ -59,7 +60,7 @@ fn put_job(job: &Job, resources: u8, out: &mut [u8], at: usize)
     let needs = &job.needs[..usize::from(resources)];
     let length = 3 + 2 * u16::from(resources);
     Head {
-        tag: JOB_TAG,
+        tag: Tag::Job as u8,
         length,
     }
     .put(out, at);
@@ -109,16 +110,16 @@ pub fn write_table(table: &Table, out: &mut [u8]) -> Result<usize, Refusal>
         return Err(Refusal::BufferTooShort);
     }
     Head {
-        tag: VERSION_TAG,
+        tag: Tag::Version as u8,
         length: 1,
     }
     .put(out, 0);
     VERSION.put(out, 3);
-    put_number(out, 4, SIZE_TAG, table.size);
+    put_number(out, 4, Tag::Size as u8, table.size);
     let end = put_resources(table.listed_units(), out, 9);
     let end = put_jobs(table.listed_jobs(), table.resource_count, out, end);
     Head {
-        tag: END_TAG,
+        tag: Tag::End as u8,
         length: 0,
     }
     .put(out, end);
