@@ -3,5 +3,4 @@ pub mod Reading
 pub mod ReadBack
 pub mod Fitting
 pub mod WriteBack
-pub mod Words
 pub mod Unique

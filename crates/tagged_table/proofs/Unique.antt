@@ -2,22 +2,14 @@
 -- The contracts say how reading ended in the paper's numbers, and each refusal has a number of its own.
 use Rattle.std.specs.Prelude.{◌≡◌, ℕ, Result, Ok, Err}
 use Rattle.std.proofs.Common.{ap, ap₂, sym, ◌∙◌}
-use Rattle.table.specs.declared.Refusal.{Refusal}
 use Rattle.table.specs.declared.RefusedAt.{RefusedAt}
 use Rattle.table.specs.declared.Table.{Table}
-use Rattle.table.specs.Refusals.{numbers_of}
-use Rattle.table.proofs.Numbers.{number_once, in_numbers_once}
+use Rattle.table.proofs.Numbers.{refused_once, in_numbers_once}
 use Rattle.tagged_table.specs.declared.TableRead.{TableRead}
 use Rattle.tagged_table.specs.Form.{Reading}
 use Rattle.tagged_table.specs.Answers.{end_said, Answers}
 use Rattle.tagged_table.proofs.read.read_table.Reads as read_table
 use Rattle.tagged_table.proofs.write.write_table.Reads as write_table
-
-refused_once : (a b : RefusedAt) → numbers_of a ≡ numbers_of b → a ≡ b
-refused_once a b e =
-    ap₂ (λ (w : Refusal) (n : ℕ). record { refusal = w; place = n })
-    (number_once a.refusal b.refusal (ap (λ (x : ℕ × ℕ). x.0) e))
-    (ap (λ (x : ℕ × ℕ). x.1) e)
 
 end_once : (r s : Result ℕ RefusedAt) → end_said r ≡ end_said s → r ≡ s
 end_once (Ok m) (Ok n) e = cc
