@@ -45,7 +45,7 @@ SEED = 20261126
 READ_TABLE, WRITE_TABLE, READ_EVENT, WRITE_EVENT = 1, 2, 3, 4
 KIND_NAMES = {READ_TABLE: "read a table", WRITE_TABLE: "write a table", READ_EVENT: "read an event", WRITE_EVENT: "write an event"}
 
-# The paper's table of 41 bytes, as the paper prints it.
+# The rules' table of 41 bytes, as docs/RULES.md prints it.
 STATION_BYTES = bytes.fromhex(
     "01 00 01 01 02 00 02 00 5A 03 00 02 00 04 04 00 05 0A 00 28 00 04 04 00 05 14 00 1E 00 03 04 00 05 1E 00 14 00 01 05 00 00"
 )
@@ -585,7 +585,7 @@ def all_vectors():
 
 
 def check_model_by_the_paper():
-    """The paper's own examples, before anything is made from the model."""
+    """The rules' own examples, before anything is made from the model."""
     assert model.read_table(STATION_BYTES) == ("took", 41, STATION)
     assert model.worst_stack(STATION) == ("sum", 90)
     assert model.write_table(STATION, 41) == ("bytes", STATION_BYTES)

@@ -1,4 +1,4 @@
--- The thirteen rows of document 01's example, release all given back at once, a start's clearing and equal levels: both sides of each
+-- The thirteen rows of the rules' example, release all given back at once, a start's clearing and equal levels: both sides of each
 -- compute to the same value.
 use Rattle.std.specs.Prelude.{◌≡◌, refl, [], ◌∷◌, get_or, take}
 use Rattle.std.proofs.Math.Option.{some}

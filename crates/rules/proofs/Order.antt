@@ -1,4 +1,4 @@
--- The laws that demand 3 asks of the waiting order. Its proof opens `sooner` in this file alone, so another order (document 001, section 2.5)
+-- The laws that demand 3 asks of the waiting order. Its proof opens `sooner` in this file alone, so another order (Baker 1990, section 2.5)
 -- is proved by proving these four laws of it.
 use Rattle.std.specs.Prelude.{◌≡◌, Bool, true, false, ◌&&◌, List, [], ◌∷◌, ◌<◌, ltb}
 use Rattle.std.proofs.Common.{sym, arith, ltb-true}
@@ -31,7 +31,7 @@ pub sooner_behind : (t : Table) → Good t → (s : State) (a b d : Entry) → L
 unfolding sooner
 sooner_behind t g s a b d x y z h k = grind (arith, nat_tests)
 
--- (3) one that arrives and is sooner than an active one has the higher level (document 001, condition (2.1))
+-- (3) one that arrives and is sooner than an active one has the higher level (Baker 1990, condition (2.1))
 pub sooner_level : (t : Table) → Good t → (s : State) (a b : Entry) → Live t s a → Live t s b → sooner t a b ≡ true → level_at t b < level_at t a
 unfolding sooner
 sooner_level t g s a b x y h = ltb-true _ _ h

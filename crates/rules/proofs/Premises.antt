@@ -1,4 +1,4 @@
--- The premises hold of document 01's table, the case of demand 3 (b) occurs in its log, and 18 is answered in a state made by hand: so
+-- The premises hold of the rules' table, the case of demand 3 (b) occurs in its log, and 18 is answered in a state made by hand: so
 -- none of the statements is empty.
 use Rattle.std.specs.Prelude.{◌≡◌, refl, true, [], ◌∷◌, ℕ, ◌+◌, ◌-◌, get_or}
 use Rattle.std.proofs.Common.{subst, lit≤, arith}
@@ -17,12 +17,12 @@ use Rattle.rules.specs.Examples.{station, log}
 use Rattle.rules.proofs.Counts.{every_below_at}
 use Rattle.rules.proofs.Demand.{demand_3}
 
--- document 01's table could be written
+-- the rules' table could be written
 pub station_written : table_refusal (station 90) ≡ 0
 unfolding first_bad max_below sum_below every none_above worst table_refusal
 station_written = refl
 
--- document 01's log, as a sequence
+-- the rules' log, as a sequence
 pub events : ℕ → Event
 events i = get_or log i (finish 0)
 

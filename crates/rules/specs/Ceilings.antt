@@ -1,4 +1,4 @@
--- Document 01, "Rules of the policy": the ceiling of a resource and the system ceiling.
+-- docs/RULES.md, "Rules of the policy": the ceiling of a resource and the system ceiling.
 use Rattle.std.specs.Prelude.{List, ℕ, max, ltb}
 use Rattle.rules.specs.Choice.{pick}
 use Rattle.rules.specs.Counting.{max_below}

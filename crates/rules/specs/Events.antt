@@ -1,4 +1,4 @@
--- Document 01, the five events: the refusal of each, what an accepted one changes, and the state after it.
+-- docs/RULES.md, the five events: the refusal of each, what an accepted one changes, and the state after it.
 use Rattle.std.specs.Prelude.{Bool, true, false, not, ◌&&◌, List, [], ◌∷◌, ℕ, ◌+◌, ◌-◌, get_or, set, ltb, leb, eqb}
 use Rattle.std.proofs.Math.Option.{Option, none}
 use Rattle.rules.specs.Choice.{pick, Check, refuse, first_bad}

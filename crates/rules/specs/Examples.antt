@@ -1,4 +1,4 @@
--- Document 01's example: its table and log, and the thirteen rows that are proved from the definitions, in one table under one claim.
+-- The rules' example: its table and log, and the thirteen rows that are proved from the definitions, in one table under one claim.
 use Rattle.std.specs.Prelude.{◌≡◌, List, [], ◌∷◌, ℕ, ◌-◌, get_or}
 use Rattle.std.proofs.Math.Option.{Option, none, some}
 use Rattle.rules.specs.Table.{Table, table_refusal}

@@ -1,4 +1,4 @@
--- Document 01, "Numbers": the limits, each by name, here and nowhere else in the definitions. No proof depends on their number.
+-- docs/RULES.md, "Numbers": the limits, each by name, here and nowhere else in the definitions. No proof depends on their number.
 use Rattle.std.specs.Prelude.{ℕ}
 
 -- Jobs 1 to 32.

@@ -1,4 +1,4 @@
--- Document 01, "Rules of the policy": the place of each frame, and what a start does to the stack memory.
+-- docs/RULES.md, "Rules of the policy": the place of each frame, and what a start does to the stack memory.
 use Rattle.std.specs.Prelude.{List, [], ◌∷◌, ◌++◌, ℕ, ◌+◌, take, drop, replicate}
 use Rattle.rules.specs.Choice.{pick}
 use Rattle.rules.specs.Table.{Table, frame_of, room_of}

@@ -1,4 +1,4 @@
--- Document 01, "Rules of the policy": the start test. It is for the head alone, and no other waiting job is tried.
+-- docs/RULES.md, "Rules of the policy": the start test. It is for the head alone, and no other waiting job is tried.
 use Rattle.std.specs.Prelude.{Bool, false, List, [], ◌∷◌, ltb}
 use Rattle.rules.specs.Choice.{pick}
 use Rattle.rules.specs.Table.{Table}

@@ -1,4 +1,4 @@
--- Document 01, "Rules of the policy": the stack of started jobs with what each holds, the waiting jobs, the free units.
+-- docs/RULES.md, "Rules of the policy": the stack of started jobs with what each holds, the waiting jobs, the free units.
 use Rattle.std.specs.Prelude.{Bool, false, List, [], ◌∷◌, ◌++◌, ℕ, ◌+◌, ◌-◌, get_or, replicate, eqb}
 use Rattle.std.proofs.Math.Option.{Option, none, some}
 use Rattle.rules.specs.Table.{Table, level_of, resource_count, units_of}

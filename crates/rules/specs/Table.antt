@@ -1,4 +1,4 @@
--- Document 01, "Numbers" and the worst stack: the table of jobs and resources, and when it could be written.
+-- docs/RULES.md, "Numbers" and the worst stack: the table of jobs and resources, and when it could be written.
 use Rattle.std.specs.Prelude.{Bool, not, ◌&&◌, List, [], ◌∷◌, ℕ, suc, length, get_or, leb, eqb}
 use Rattle.rules.specs.Limits.{max_jobs, max_resources, max_units, max_level, max_bytes}
 use Rattle.rules.specs.Choice.{pick, Check, refuse, first_bad}

@@ -1,4 +1,4 @@
--- Document 01, "Rules of the policy": the order of waiting; and the waiting word of "Replaying one log".
+-- docs/RULES.md, "Rules of the policy": the order of waiting; and the waiting word of "Replaying one log".
 use Rattle.std.specs.Prelude.{Bool, List, [], ◌∷◌, ℕ, ◌^◌, ltb}
 use Rattle.std.proofs.Math.Option.{Option, none, some}
 use Rattle.rules.specs.Choice.{pick}

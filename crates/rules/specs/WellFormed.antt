@@ -1,4 +1,4 @@
--- Document 01: "A state is well formed if", its sentence part by part.
+-- docs/RULES.md: "A state is well formed if", its sentence part by part.
 use Rattle.std.specs.Prelude.{Bool, true, not, ◌&&◌, List, [], ◌∷◌, ltb, leb, eqb}
 use Rattle.rules.specs.Counting.{every_below, every, none_above, each_once}
 use Rattle.rules.specs.Table.{Table, table_refusal, job_count, resource_count, job_of, units_of}

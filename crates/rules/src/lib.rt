@@ -1,4 +1,4 @@
-// The limits of document 01, "Numbers", for the array types of the crates above. The policy itself is in specs/.
+// The limits of docs/RULES.md, "Numbers", for the array types of the crates above. The policy itself is in specs/.
 // `limits` ties each limit of the code to the one that the definitions use, so that neither changes alone.
 #![tactic(auto)]
 

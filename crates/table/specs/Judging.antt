@@ -1,5 +1,5 @@
--- Document 01: the judging of a table that is held in arrays. Counts out of range 2, then 4 (entries past a count that are not zero
--- included), then 5.
+-- docs/RULES.md, "Refusal numbers": the judging of a table that is held in arrays. Counts out of range 2, then 4 (entries past a count
+-- that are not zero included), then 5.
 use Rattle.std.specs.Prelude.{Bool, not, ◌&&◌, [], ◌∷◌, ℕ, take, drop, eqb, Result, Ok, Err}
 use Rattle.rules.specs.Choice.{refuse, first_bad}
 use Rattle.rules.specs.Counting.{every}

@@ -1,4 +1,4 @@
--- Document 01, "Refusal numbers": the number of each refusal.
+-- docs/RULES.md, "Refusal numbers": the number of each refusal.
 use Rattle.std.specs.Prelude.{ℕ, zero, suc, Result, Ok, Err}
 use Rattle.table.specs.declared.Refusal.{Refusal}
 use Rattle.table.specs.declared.RefusedAt.{RefusedAt}

@@ -1,4 +1,4 @@
--- Document 01's 41 bytes are read and written, stack size 89 is refused with 5 at 41, and the empty input with 1 at 0: both sides compute
+-- The rules' 41 bytes are read and written, stack size 89 is refused with 5 at 41, and the empty input with 1 at 0: both sides compute
 -- to the same value.
 use Rattle.std.specs.Prelude.{◌≡◌, refl, []}
 use Rattle.rules.specs.Choice.{first_bad}

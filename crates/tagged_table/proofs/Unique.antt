@@ -1,5 +1,5 @@
 -- One outcome: any two results that a contract of this crate allows are equal, and for writing any two contents of the buffer.
--- The contracts say how reading ended in the paper's numbers, and each refusal has a number of its own.
+-- The contracts say how reading ended in the rules' numbers, and each refusal has a number of its own.
 use Rattle.std.specs.Prelude.{◌≡◌, ℕ, Result, Ok, Err}
 use Rattle.std.proofs.Common.{ap, ap₂, sym, ◌∙◌}
 use Rattle.table.specs.declared.RefusedAt.{RefusedAt}

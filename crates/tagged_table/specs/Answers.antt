@@ -1,4 +1,4 @@
--- What the code's answers say, in the paper's numbers and values, and what they are to be.
+-- What the code's answers say, in the rules' numbers and values, and what they are to be.
 use Rattle.std.specs.Prelude.{◌≡◌, List, [], ◌++◌, ℕ, zero, suc, length, drop, ltb, Result, Ok, Err}
 use Rattle.rules.specs.Choice.{pick}
 use Rattle.rules.specs.Table as R

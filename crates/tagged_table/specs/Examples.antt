@@ -1,7 +1,7 @@
--- Document 01's 41 bytes, from the definitions alone: read, written, refused with 5 at 41 for stack size 89; and the empty input.
+-- The rules' 41 bytes, from the definitions alone: read, written, refused with 5 at 41 for stack size 89; and the empty input.
 use Rattle.std.specs.Prelude.{List, [], ◌∷◌, ℕ}
 
--- Document 01's bytes, with that stack size.
+-- The rules' bytes, with that stack size.
 abbrev pub station_bytes : ℕ → List ℕ
 station_bytes size =
     0x01 ∷ 0x00 ∷ 0x01 ∷ 0x01

@@ -1,4 +1,4 @@
--- Document 01, "The tagged form": a table, its fields in order, how many of each, their lengths and ranges; read and written.
+-- docs/RULES.md, "The tagged form": a table, its fields in order, how many of each, their lengths and ranges; read and written.
 use Rattle.std.specs.Prelude.{Bool, true, false, ◌&&◌, List, [], ◌∷◌, ◌++◌, ℕ, zero, suc, ◌+◌, ◌*◌, length, get_or, drop, ltb, eqb, Result, Ok}
 use Rattle.rules.specs.Limits.{max_jobs, max_resources, max_units, max_bytes}
 use Rattle.rules.specs.Choice.{pick}

@@ -7,7 +7,7 @@ use table::{JobNo, RefusedAt};
 use tagged_event::{Event, read_event, write_event};
 
 /// Appends what reading an event answers.
-pub fn put_read(out: &mut String, record: &[u8]) -> Result<(), AllocError> {
+pub(crate) fn put_read(out: &mut String, record: &[u8]) -> Result<(), AllocError> {
     let at = number_at(record, 0);
     let input = record.get(2..).unwrap_or(&[]);
     match read_event(input, usize::from(at)) {
@@ -24,7 +24,7 @@ pub fn put_read(out: &mut String, record: &[u8]) -> Result<(), AllocError> {
 }
 
 /// Appends what writing an event answers.
-pub fn put_write(alloc: Global, out: &mut String, record: &[u8]) -> Result<(), AllocError> {
+pub(crate) fn put_write(alloc: Global, out: &mut String, record: &[u8]) -> Result<(), AllocError> {
     let room = number_at(record, 0);
     let mut buffer = vec![in alloc; FILL; usize::from(room)]?;
     let answer = write_event(&event_in(record), buffer.as_mut_slice());

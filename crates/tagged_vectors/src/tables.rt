@@ -22,7 +22,7 @@ const JOBS_AT: usize = 22;
 const JOB_BYTES: usize = 19;
 
 /// Appends what reading a table answers.
-pub fn put_read(out: &mut String, input: &[u8]) -> Result<(), AllocError> {
+pub(crate) fn put_read(out: &mut String, input: &[u8]) -> Result<(), AllocError> {
     let answer = read_table(input);
     match answer.end {
         Ok(took) => {
@@ -38,7 +38,7 @@ pub fn put_read(out: &mut String, input: &[u8]) -> Result<(), AllocError> {
 }
 
 /// Appends what writing a table answers, then its worst stack, then how it is judged.
-pub fn put_write(alloc: Global, out: &mut String, record: &[u8]) -> Result<(), AllocError> {
+pub(crate) fn put_write(alloc: Global, out: &mut String, record: &[u8]) -> Result<(), AllocError> {
     let front = Place {
         bytes: record,
         at: 0,

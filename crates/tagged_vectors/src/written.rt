@@ -7,7 +7,7 @@ use table::Refusal;
 pub const FILL: u8 = 0xee;
 
 /// Appends how a write ended: the bytes written, or the refusal's number, and whether the other bytes are as they were.
-pub fn put_written(
+pub(crate) fn put_written(
     out: &mut String,
     answer: Result<usize, Refusal>,
     buffer: &[u8],
