@@ -1,4 +1,5 @@
--- Runs of stores, one behind the other, that make up a job's field, and the fields of jobs: by `sets_next` of a field's stores.
+-- Runs of stores, one behind the other, that make up a job's field, and the fields of jobs.
+-- Each run begins where the one before it ends, so that two are one: by `sets_next` of a field's stores.
 use Rattle.std.specs.Prelude.{◌≡◌, List, [], ◌∷◌, ◌++◌, ℕ, ◌+◌, ◌*◌, ◌<◌, length, get_or, take, drop, map}
 use Rattle.std.proofs.Common.{sym, ap, ◌∙◌, arith}
 use Rattle.std.proofs.lemmas.List.{drop_more}

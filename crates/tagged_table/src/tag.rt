@@ -5,7 +5,7 @@ use table::Refusal;
 
 /// The tag of a field of a table.
 #[derive(Clone, Copy, Debug, PartialEq, Eq)]
-pub enum Tag {
+pub(crate) enum Tag {
     Version = 1,
     Size = 2,
     Resource = 3,

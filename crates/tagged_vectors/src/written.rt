@@ -4,7 +4,7 @@ use std::alloc::AllocError;
 use table::Refusal;
 
 /// What every byte of a buffer is before a write.
-pub const FILL: u8 = 0xee;
+pub(crate) const FILL: u8 = 0xee;
 
 /// Appends how a write ended: the bytes written, or the refusal's number, and whether the other bytes are as they were.
 pub(crate) fn put_written(
