@@ -26,9 +26,11 @@ table_of t =
 abbrev pub padded : {A : Type 0} → A → ℕ → List A → List A
 padded z n xs = xs ++ replicate (n - length xs) z
 
+-- A job's level and frame, and its needs made up with zeros.
 abbrev pub job_arrays : R.Job → Job
 job_arrays j = record { level = record { 0 = j.level }; frame = j.frame; needs = padded 0 max_resources j.needs }
 
+-- A job of zeros.
 abbrev pub job_of_zeros : Job
 job_of_zeros = job_arrays R.no_job
 
@@ -53,6 +55,7 @@ table_of_zeros = arrays_of (record { size = 0; units = []; jobs = [] })
 abbrev pub absent_job : Job
 absent_job = record { level = record { 0 = 0 }; frame = 0; needs = [] }
 
+-- The job at place j of the arrays.
 abbrev pub job_at : Table → ℕ → Job
 job_at t j = get_or t.jobs j absent_job
 

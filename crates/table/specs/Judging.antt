@@ -10,6 +10,7 @@ use Rattle.table.specs.declared.Refusal.{Refusal}
 use Rattle.table.specs.Refusals.{number_of, when_fit}
 use Rattle.table.specs.Arrays.{table_of}
 
+-- Is the entry zero?
 abbrev pub is_zero : ℕ → Bool
 is_zero n = eqb n 0
 
@@ -28,9 +29,11 @@ blank t =
     && every (needs_blank t.resource_count) (take t.job_count t.jobs)
     && every job_blank (drop t.job_count t.jobs)
 
+-- Jobs 1 to 32, resources 0 to 8.
 abbrev pub counts_fit : Table → Bool
 counts_fit t = counts_good t.resource_count t.job_count
 
+-- Each value is in its range, and entries past a count are zero.
 abbrev pub values_fit : Table → Bool
 values_fit t = values_good (table_of t) && blank t
 

@@ -6,6 +6,7 @@ use Rattle.table.specs.declared.Refusal.TheVariants.{InputEnds, WrongTagOrCount,
 use Rattle.table.specs.declared.Refusal.TheVariants.{NotWellFormed, WrongMemoryLength, NoSuchJob, AlreadyActive, NotRunning, NoSuchResource}
 use Rattle.table.specs.declared.Refusal.TheVariants.{AmountZero, AboveNeed, AboveFree, AboveHeld, StillHolds, HoldsNothing}
 
+-- The number of a refusal; over each, when it is given.
 abbrev pub number_of : Refusal → ℕ
 -- input ends inside a field or where a field is due
 number_of InputEnds = 1

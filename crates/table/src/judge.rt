@@ -40,7 +40,8 @@ impl Table {
     fn counts_fit(&self) -> bool
         ensures { result ≡ counts_fit self.now }
     {
-        self.resource_count as usize <= RESOURCES && (1..=JOBS).contains(&(self.job_count as usize))
+        usize::from(self.resource_count) <= RESOURCES
+            && (1..=JOBS).contains(&(usize::from(self.job_count)))
     }
 
     /// Are the values in range, and the entries past a count zero?
@@ -96,7 +97,7 @@ impl Table {
     {
         self.units
             .iter()
-            .skip(self.resource_count as usize)
+            .skip(usize::from(self.resource_count))
             .all(|&units| units == 0)
     }
 
@@ -106,7 +107,7 @@ impl Table {
     {
         self.listed_jobs()
             .iter()
-            .all(|job| job.needs_blank(self.resource_count as usize))
+            .all(|job| job.needs_blank(usize::from(self.resource_count)))
     }
 
     /// Are the places past the job count zero?
@@ -115,7 +116,7 @@ impl Table {
     {
         self.jobs
             .iter()
-            .skip(self.job_count as usize)
+            .skip(usize::from(self.job_count))
             .all(|job| job.blank())
     }
 }

@@ -9,7 +9,7 @@ impl Table {
         ensures { result.now ≡ take self.now.resource_count self.now.units }
     {
         self.units
-            .get(..self.resource_count as usize)
+            .get(..usize::from(self.resource_count))
             .unwrap_or(&self.units)
     }
 
@@ -18,7 +18,7 @@ impl Table {
         ensures { result.now ≡ take self.now.job_count self.now.jobs }
     {
         self.jobs
-            .get(..self.job_count as usize)
+            .get(..usize::from(self.job_count))
             .unwrap_or(&self.jobs)
     }
 }

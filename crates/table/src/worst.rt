@@ -18,7 +18,7 @@ impl Table {
     {
         let mut largest = [0; LEVELS];
         for job in self.listed_jobs() {
-            let level = job.level.0 as usize;
+            let level = usize::from(job.level.0);
             largest[level] = largest[level].max(job.frame);
         }
         largest

@@ -21,6 +21,7 @@ use Rattle.field.proofs.Walk.{HeadIs, head_short, not_here, not_long, not_whole,
 use Rattle.tagged_table.specs.Form.{Sofar, nothing, stands, wants, may_follow, length_wanted, good, grown, judged, took, Reading, ended, table_reading}
 use Rattle.tagged_table.specs.Answers.{end_said, end_of, table_in}
 use Rattle.tagged_table.specs.Parts.{end_answer, Stores}
+use Rattle.tagged_table.proofs.Outcome.{ok_not_err}
 use Rattle.tagged_table.proofs.Walk.{reading_from, whole, from_bad, from_end, from_next}
 use Rattle.tagged_table.proofs.Ends.{is_standing}
 use Rattle.tagged_table.proofs.WriteBack.{InRange, nothing_in_range, grown_in_range}
@@ -65,9 +66,6 @@ ends_on_ok s new k x = go (stack_good (table_of new)) x.table
 -- The jobs that are in range have as many needs as there are units.
 full : (t : R.Table) → every (job_good t.units) t.jobs ≡ true → (j : ℕ) → j < R.job_count t → length (R.job_of t j).needs ≡ R.resource_count t
 full t h j l = none_above-length t.units (R.job_of t j).needs (and_parts _ _ (every_at (job_good t.units) t.jobs h j R.no_job l)).1
-
-ok_not_err : (e : RefusedAt) → ◌≡◌ {A = Result (Unit {0}) RefusedAt} (Ok tt) (Err e) → ⊥
-ok_not_err e h = grind arith
 
 same_err : (d e : RefusedAt) → ◌≡◌ {A = Result (Unit {0}) RefusedAt} (Err d) (Err e) → d ≡ e
 same_err d e h = grind arith
@@ -121,7 +119,7 @@ module _ (s : List ℕ) (t : Table) (last at : ℕ) (l : Left s t last at) where
           stop_range e r = go (good l.p tag (drop k s)) refl
             where
               go : (g : Bool) → good l.p tag (drop k s) ≡ g → table_reading s ≡ Err (numbers_of e)
-              go true q = absurd (ok_not_err e (sym (st.in_range l.p l.is q).0 ∙ r))
+              go true q = absurd (ok_not_err tt e (sym (st.in_range l.p l.is q).0 ∙ r))
               go false q = sym l.same ∙ from_bad l.p (drop at s) at 3 (value_judged l.p (drop at s) false it.0 (good_is false q)) ∙ ap (λ (x : RefusedAt). Err (numbers_of x)) (same_err _ e (sym (st.out_of_range l.p l.is q) ∙ r))
 
           stored : result ≡ Ok tt → (good l.p tag (drop k s) ≡ true) × (new ≡ arrays_of (grown l.p tag (drop k s)).table)
@@ -129,7 +127,7 @@ module _ (s : List ℕ) (t : Table) (last at : ℕ) (l : Left s t last at) where
             where
               go : (g : Bool) → good l.p tag (drop k s) ≡ g → (good l.p tag (drop k s) ≡ true) × (new ≡ arrays_of (grown l.p tag (drop k s)).table)
               go true q = (q, (st.in_range l.p l.is q).1)
-              go false q = absurd (ok_not_err _ (sym r ∙ st.out_of_range l.p l.is q))
+              go false q = absurd (ok_not_err tt _ (sym r ∙ st.out_of_range l.p l.is q))
 
           behind : (j : ℕ) → drop (at + j) s ≡ drop j (drop at s)
           behind j = sym (drop-drop j at s)

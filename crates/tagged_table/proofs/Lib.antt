@@ -1,5 +1,6 @@
 -- What is proved of a table's tagged form, each file over those before it.
 pub mod Examples
+pub mod Outcome
 pub mod Walk
 pub mod Written
 pub mod Longest

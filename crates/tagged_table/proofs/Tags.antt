@@ -10,13 +10,11 @@ use Rattle.tagged_table.specs.declared.tag.Tag.{Tag}
 use Rattle.tagged_table.specs.declared.tag.Tag.TheVariants.{Version, Size, Resource, Job, End}
 use Rattle.tagged_table.specs.Form.{may_follow}
 use Rattle.tagged_table.specs.Tags.{number_of_tag, tag_answer}
+use Rattle.tagged_table.proofs.Outcome.{ok_not_err}
 use Rattle.tagged_table.proofs.Ends.{tag_case}
 
 ok_same : (t u : Tag) → ◌≡◌ {A = Result Tag Refusal} (Ok t) (Ok u) → t ≡ u
 ok_same t u e = grind arith
-
-ok_not_err : (t : Tag) (r : Refusal) → ◌≡◌ {A = Result Tag Refusal} (Ok t) (Err r) → ⊥
-ok_not_err t r e = grind arith
 
 pub tag_known : (byte : ℕ) (t : Tag) → Ok t ≡ tag_answer byte → number_of_tag t ≡ byte
 tag_known byte t =

@@ -16,10 +16,12 @@ use Rattle.tagged_table.specs.Form.{Reading, or_else, table_bytes}
 abbrev pub Ending : Type 0
 Ending = Result ℕ (ℕ × ℕ)
 
+-- What is answered by `Result<usize, RefusedAt>`.
 abbrev pub end_said : Result ℕ RefusedAt → Ending
 end_said (Ok n) = Ok n
 end_said (Err e) = Err (numbers_of e)
 
+-- How a reading ended, without its table.
 abbrev pub end_of : Reading → Ending
 end_of (Ok x) = Ok x.0
 end_of (Err e) = Err e
@@ -49,5 +51,6 @@ abbrev pub out_of : ℕ → Table → List ℕ → List ℕ
 out_of zero t out = table_bytes (table_of t) ++ drop (length (table_bytes (table_of t))) out
 out_of (suc n) t out = out
 
+-- The output after writing a table.
 unfoldable pub write_out : Table → List ℕ → List ℕ
 write_out t out = out_of (write_judged t (length out)) t out

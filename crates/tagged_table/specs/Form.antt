@@ -7,6 +7,7 @@ use Rattle.rules.specs.Table.{Job, Table, job_good, stack_good}
 use Rattle.table.specs.Refusals.{refused_at, or_refused}
 use Rattle.field.specs.Field.{two, pair_at, field, tag_of, length_of, framed}
 
+-- The version, 1.
 abbrev pub version : ℕ
 version = 1
 
@@ -40,6 +41,7 @@ pub record Sofar : Type 0 where
   pub last : ℕ
   pub table : Table
 
+-- Before the first field.
 abbrev pub nothing : Sofar
 nothing = record { last = 0; table = record { size = 0; units = []; jobs = [] } }
 
@@ -58,6 +60,7 @@ may_follow last resources jobs tag =
     (within 4 4 last)
     false
 
+-- May a field with this tag stand next?
 unfoldable pub stands : Sofar → ℕ → Bool
 stands p tag = may_follow p.last (length p.table.units) (length p.table.jobs) tag
 
@@ -65,6 +68,7 @@ stands p tag = may_follow p.last (length p.table.units) (length p.table.jobs) ta
 abbrev pub length_wanted : ℕ → ℕ → ℕ
 length_wanted resources tag = by_tag tag 1 2 2 (3 + 2 * resources) 0 0
 
+-- The length that a field with this tag has to say.
 unfoldable pub wants : Sofar → ℕ → ℕ
 wants p tag = length_wanted (length p.table.units) tag
 
@@ -88,12 +92,15 @@ good p tag v =
     true
     false
 
+-- The table with its stack size ..
 abbrev pub sized : Table → ℕ → Table
 sized t n = record { size = n; units = t.units; jobs = t.jobs }
 
+-- .. with one more resource ..
 abbrev pub with_units : Table → ℕ → Table
 with_units t n = record { size = t.size; units = t.units ++ (n ∷ []); jobs = t.jobs }
 
+-- .. and with one more job.
 abbrev pub with_job : Table → Job → Table
 with_job t j = record { size = t.size; units = t.units; jobs = t.jobs ++ (j ∷ []) }
 
@@ -125,6 +132,7 @@ judged p b = or_else (framed (stands p) (wants p) b) (pick (good p (tag_of b) (d
 abbrev pub Reading : Type 0
 Reading = Result (ℕ × Table) (ℕ × ℕ)
 
+-- A table was read, from n bytes.
 abbrev pub took : ℕ → Table → Reading
 took n t = Ok (n, t)
 
@@ -143,6 +151,6 @@ unfoldable pub read_fields : ℕ → Sofar → List ℕ → ℕ → Reading
 read_fields zero p b at = refused_at 1 at
 read_fields (suc n) p b at = step p b at (read_fields n)
 
--- Reading a table. Bytes after the end field are left unread. (Each field takes a byte at least, so there are no more fields than bytes.)
+-- Reading a table. Bytes after the end field are left unread. (Each field takes three bytes at least, so there are no more fields than bytes.)
 unfoldable pub table_reading : List ℕ → Reading
 table_reading s = read_fields (suc (length s)) nothing s 0

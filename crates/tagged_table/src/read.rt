@@ -138,7 +138,7 @@ fn walk(input: &[u8], table: &mut Table) -> Result<usize, RefusedAt>
             break 'walk refused(Refusal::InputEnds, at);
         };
         let Ok(tag) = Tag::try_from(tag) else {
-            break 'walk refused(Refusal::WrongTagOrCount, field.at);
+            break 'walk refused(Refusal::WrongTagOrCount, at);
         };
         if !may_follow(last, table.resource_count, table.job_count, tag) {
             break 'walk refused(Refusal::WrongTagOrCount, at);
@@ -147,7 +147,7 @@ fn walk(input: &[u8], table: &mut Table) -> Result<usize, RefusedAt>
             break 'walk refused(Refusal::WrongLength, at);
         }
         let Some(start) = field.value(length) else {
-            break 'walk refused(Refusal::InputEnds, field.at);
+            break 'walk refused(Refusal::InputEnds, at);
         };
         let value = Place {
             bytes: input,

@@ -8,4 +8,6 @@ loop-job-init c = largest_none c.listed_jobs-job-items.result.now
 
 pub loop-job-preserved : goal.loop-job-preserved
 loop-job-preserved c =
-    largest_more c.listed_jobs-job-items.result.now c.loop-job.largest c.loop-job.job-index c.max.result c.loop-job.invariant (omega arith) c.max.ensures
+    rw c.from-level.ensures
+    (largest_more c.listed_jobs-job-items.result.now c.loop-job.largest c.loop-job.job-index c.max.result c.loop-job.invariant (omega arith)
+    (rw c.from-level.ensures at c.max.ensures))
