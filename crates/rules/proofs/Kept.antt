@@ -134,7 +134,7 @@ well_applied t s (f ∷ fs) ks b leave h w = well_leave t s f fs ks w
 
 -- ---- the start test
 
-held_zeros : (n r : ℕ) → get_or {A = ℕ} (replicate n 0) r 0 ≡ 0
+pub held_zeros : (n r : ℕ) → get_or {A = ℕ} (replicate n 0) r 0 ≡ 0
 held_zeros n r = grind (arith, cases_lt r n, places, get_or_past)
 
 pub well_push : (t : Table) (s : State) (fs : List Started) (k : Entry) (ks : List Entry) → starts t fs (k ∷ ks) ≡ true

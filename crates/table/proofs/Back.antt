@@ -24,7 +24,7 @@ replicate_back z d [] h = refl
 replicate_back z d (x ∷ xs) h = ap₂ (λ y ys. y ∷ ys) (sym (h 0 (omega arith))) (replicate_back z d xs (λ i l. h (suc i) (omega arith)))
 
 -- The front of a list, each entry as it was, and behind it what stood there anyway.
-padded_back : {A : Type 0} (z d : A) (f : A → A) (k : ℕ) (xs : List A) → ((i : ℕ) → i < length xs → i < k → f (get_or xs i d) ≡ get_or xs i d)
+pub padded_back : {A : Type 0} (z d : A) (f : A → A) (k : ℕ) (xs : List A) → ((i : ℕ) → i < length xs → i < k → f (get_or xs i d) ≡ get_or xs i d)
     → ((i : ℕ) → i < length xs → k ≤ i → get_or xs i d ≡ z) → padded z (length xs) (map f (take k xs)) ≡ xs
 padded_back z d f zero xs h g = rw (sub-zero (length xs)) (replicate_back z d xs (λ i l. g i l zero-le))
 padded_back z d f (suc k) [] h g = refl
@@ -35,18 +35,18 @@ padded_back z d f (suc k) (x ∷ xs) h g =
     (padded_back z d f k xs (λ i l b. h (suc i) (omega arith) (omega arith)) (λ i l b. g (suc i) (omega arith) (omega arith)))
 
 -- What holds of each entry past k, and of each before it.
-at_dropped : {A : Type 0} (p : A → Bool) (k : ℕ) (xs : List A) (d : A) → every p (drop k xs) ≡ true → (i : ℕ) → i < length xs → k ≤ i → p (get_or xs i d) ≡ true
+pub at_dropped : {A : Type 0} (p : A → Bool) (k : ℕ) (xs : List A) (d : A) → every p (drop k xs) ≡ true → (i : ℕ) → i < length xs → k ≤ i → p (get_or xs i d) ≡ true
 at_dropped p k xs d h i l b =
     let e : k + (i - k) ≡ i = omega arith in
     let s : i - k < length (drop k xs) = simp length-drop (omega arith) in
     ap p (sym (get_or-drop k xs (i - k) d ∙ ap (λ n. get_or xs n d) e)) ∙ every_at p (drop k xs) h (i - k) d s
 
-at_taken : {A : Type 0} (p : A → Bool) (k : ℕ) (xs : List A) (d : A) → every p (take k xs) ≡ true → k ≤ length xs → (i : ℕ) → i < k → p (get_or xs i d) ≡ true
+pub at_taken : {A : Type 0} (p : A → Bool) (k : ℕ) (xs : List A) (d : A) → every p (take k xs) ≡ true → k ≤ length xs → (i : ℕ) → i < k → p (get_or xs i d) ≡ true
 at_taken p k xs d h n i b =
     let s : i < length (take k xs) = rw (length-take-le k xs n) b in
     ap p (sym (get_or-take k xs i d b)) ∙ every_at p (take k xs) h i d s
 
-numbers_back : (k n : ℕ) (xs : List ℕ) → length xs ≡ n → every is_zero (drop k xs) ≡ true → padded 0 n (take k xs) ≡ xs
+pub numbers_back : (k n : ℕ) (xs : List ℕ) → length xs ≡ n → every is_zero (drop k xs) ≡ true → padded 0 n (take k xs) ≡ xs
 numbers_back k n xs e h =
     ap (λ m. padded 0 m (take k xs)) (sym e)
     ∙ ap (padded 0 (length xs)) (sym (map-id (take k xs)))

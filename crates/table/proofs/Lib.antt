@@ -4,3 +4,4 @@ pub mod Tests
 pub mod Back
 pub mod Numbers
 pub mod Unique
+pub mod Fit

@@ -1,22 +1,20 @@
 -- What judging tells of a table in arrays that could be written: its counts are those of the table that the arrays hold, that table could be
 -- written, and its bytes are as many as the counts say. By the judgement's three tests, each of which passes.
-use Rattle.std.specs.Prelude.{◌≡◌, refl, List, [], ◌∷◌, ◌++◌, ℕ, zero, suc, ◌+◌, ◌*◌, ◌≤◌, ◌<◌, length, take, Ok, Err}
-use Rattle.std.proofs.Common.{sym, ap, ap₂, ◌∙◌, arith, length-take-le, length-append, lt-ltb, le-ltb}
+use Rattle.std.specs.Prelude.{◌≡◌, refl, List, [], ◌∷◌, ◌++◌, ℕ, zero, suc, ◌+◌, ◌*◌, ◌≤◌, ◌<◌, length, Ok, Err}
+use Rattle.std.proofs.Common.{sym, ap, ap₂, ◌∙◌, arith, length-append, lt-ltb, le-ltb}
 use Rattle.std.proofs.lemmas.List.Edits.{sets}
-use Rattle.std.proofs.lemmas.Bool.Decides.{nat_tests}
-use Rattle.std.proofs.lemmas.List.{length-map}
 use Rattle.rules.specs.Limits.{max_jobs, max_resources}
 use Rattle.rules.specs.Table as R
 use Rattle.rules.specs.Table.{stack_good, table_checks}
-use Rattle.rules.proofs.Choices.{stopped}
 use Rattle.table.specs.declared.Table.{Table}
-use Rattle.table.specs.Arrays.{job_in, table_of}
-use Rattle.table.specs.Judging.{counts_fit, values_fit, table_judged}
+use Rattle.table.specs.Arrays.{table_of}
+use Rattle.table.specs.Judging.{table_judged}
+use Rattle.table.proofs.Fit.{fit, resources_listed, jobs_listed, fit_written}
 use Rattle.field.specs.Field.{two, field}
 use Rattle.field.proofs.Stores.{sets_next, sets_over}
 use Rattle.tagged_table.specs.Answers.{write_judged, write_answer, write_out}
 use Rattle.tagged_table.specs.Form.{version, each, resource_bytes, job_bytes, table_bytes}
-use Rattle.tagged_table.proofs.Written.{Writable}
+use Rattle.tagged_table.proofs.Written.{Writable, writable}
 use Rattle.tagged_table.proofs.Longest.{table-length}
 
 resources-length : (us : List ℕ) → length (each resource_bytes us) ≡ 5 * length us
@@ -30,20 +28,13 @@ pub record Counted (t : Table) : Type 0 where
   pub writable : Writable (table_of t)
 
 pub counted : (t : Table) → length t.units ≡ max_resources → length t.jobs ≡ max_jobs → table_judged t ≡ 0 → Counted t
-unfolding table_judged
 counted t u j e =
-    let s = stopped 0 (table_checks (counts_fit t) (values_fit t) (stack_good (table_of t))) e in
-    let few : t.resource_count ≤ max_resources = grind (arith, nat_tests) in
-    let room : t.job_count ≤ max_jobs = grind (arith, nat_tests) in
-    let r : R.resource_count (table_of t) ≡ t.resource_count = length-take-le t.resource_count t.units (omega arith) in
-    let n : R.job_count (table_of t) ≡ t.job_count =
-    length-map (take t.job_count t.jobs) (job_in t.resource_count) ∙ length-take-le t.job_count t.jobs (omega arith) in
+    let f = fit t e in
     record {
-      few = few;
-      resources = r;
-      jobs = n;
-      writable =
-          record { size = grind arith; few = omega arith; units = grind arith; some = grind (arith, nat_tests); jobs = grind arith; stack = grind arith };
+      few = f.few_resources;
+      resources = resources_listed t f u;
+      jobs = jobs_listed t f j;
+      writable = writable (table_of t) (fit_written t e u j);
     }
 
 sum_moved : (a b : ℕ) → 12 + a + b ≡ 12 + (a + b)

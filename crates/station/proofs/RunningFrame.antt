@@ -1,0 +1,87 @@
+-- The running job's frame: the last place that is counted is the top of the rules' stack, so the frame ends where all frames end, and starts
+-- as many bytes before; and all frames together fit the stack size.
+use Rattle.std.specs.Prelude.{◌≡◌, ◌≢◌, refl, Bool, true, false, ◌&&◌, List, [], ◌∷◌, map, reverse, ℕ, ◌+◌, ◌-◌, ◌≤◌, ◌<◌, length, take, eqb, Some, None, slice_get}
+use Rattle.std.proofs.Common.{ap, ap₂, sym, ◌∙◌, arith, eq-eqb, ne_eqb}
+use Rattle.std.proofs.Math.Bool.{and-false}
+use Rattle.std.proofs.lemmas.List.{length-take, take_all}
+use Rattle.std.proofs.lemmas.Option.{slice_get_within, get_or_from_slice_get, slice_get-get_or, none-some}
+use Rattle.rules.specs.Choice.{pick}
+use Rattle.rules.specs.Table.{frame_of}
+use Rattle.rules.specs.Memory.{frame_start}
+use Rattle.rules.proofs.Frames.{frames_fit}
+use Rattle.table.specs.Arrays.{table_of}
+use Rattle.station.specs.declared.Started.{Started}
+use Rattle.station.specs.declared.State.{State}
+use Rattle.station.specs.Arrays.{started_in, state_of}
+use Rattle.station.specs.WellFormed.{well_formed}
+use Rattle.station.specs.Frame.{no_part, part_between, top_frame, running_part}
+use Rattle.station.proofs.View.{stack_up, stack_more}
+use Rattle.station.proofs.Back.{well_active}
+
+-- ---- no frame
+
+pick_same : {A : Type 0} (b : Bool) (x : A) → pick b x x ≡ x
+pick_same true x = refl
+pick_same false x = refl
+
+-- A list with no last element.
+empty : (fs : List Started) → None ≡ slice_get fs (length fs - 1) → fs ≡ []
+empty [] e = refl
+empty (f ∷ fs) e = absurd (none-some _ (e ∙ slice_get-get_or (f ∷ fs) (length (f ∷ fs) - 1) f (omega arith)))
+
+-- Nothing runs.
+pub nothing_runs : (s : State) (n : ℕ) (fs : List Started) → fs ≡ take s.depth s.stack → None ≡ slice_get fs (length fs - 1) → running_part s n ≡ part_between 0 0
+unfolding running_part
+nothing_runs s n fs e h =
+    ap (λ gs. pick (well_formed s && eqb n s.table.size) (top_frame (table_of s.table) (reverse (map (started_in s.table.resource_count) gs))) no_part) (sym e ∙ empty fs h)
+    ∙ pick_same (well_formed s && eqb n s.table.size) no_part
+
+-- 11, 10.
+pub wrong_length : (s : State) (n : ℕ) → n ≢ s.table.size → running_part s n ≡ part_between 0 0
+unfolding running_part
+wrong_length s n h = simp (ne_eqb n s.table.size h, and-false)
+
+pub not_formed : (s : State) (n : ℕ) → well_formed s ≡ false → running_part s n ≡ part_between 0 0
+unfolding running_part
+not_formed s n h = rw h refl
+
+-- ---- the frame of the last place that is counted
+
+module _ (s : State) (fs : List Started) (f : Started) (e : fs ≡ take s.depth s.stack) (h : Some f ≡ slice_get fs (length fs - 1)) where
+  last_is_top : (state_of s).stack ≡ started_in s.table.resource_count f ∷ stack_up s.table.resource_count (length fs - 1) fs
+  last_is_top =
+      let m = s.table.resource_count in
+      let l : length fs - 1 < length fs = slice_get_within fs (length fs - 1) f (sym h) in
+      let n : length fs - 1 + 1 ≡ length fs = omega arith in
+      ap (λ gs. reverse (map (started_in m) gs)) (sym e ∙ sym (take_all (length fs) fs (omega arith)))
+      ∙ ap (λ k. stack_up m k fs) (sym n)
+      ∙ stack_more m (length fs - 1) fs f l
+      ∙ ap (λ g. started_in m g ∷ stack_up m (length fs - 1) fs) (get_or_from_slice_get fs (length fs - 1) f f (sym h))
+
+  -- All frames, from the lowest up, and the last one.
+  frames_are : frame_start (table_of s.table) (state_of s).stack
+      ≡ frame_start (table_of s.table) (stack_up s.table.resource_count (length fs - 1) fs) + frame_of (table_of s.table) f.job.0
+  unfolding frame_start
+  frames_are = ap (frame_start (table_of s.table)) last_is_top
+
+  pub frame_within : frame_of (table_of s.table) f.job.0 ≤ frame_start (table_of s.table) (state_of s).stack
+  frame_within = omega (arith, frames_are)
+
+  pub frame_is : (n : ℕ) → well_formed s ≡ true → n ≡ s.table.size
+      → running_part s n ≡ part_between (frame_start (table_of s.table) (state_of s).stack - frame_of (table_of s.table) f.job.0) (frame_start (table_of s.table) (state_of s).stack)
+  unfolding running_part
+  frame_is n w l =
+      let t = table_of s.table in
+      let fr = frame_of t f.job.0 in
+      let end = frame_start t (state_of s).stack in
+      let start : frame_start t (stack_up s.table.resource_count (length fs - 1) fs) ≡ end - fr = omega (arith, frames_are) in
+      let long : fr ≡ end - (end - fr) = omega (arith, frames_are) in
+      ap₂ (λ b c. pick (b && c) (top_frame t (state_of s).stack) no_part) w (eq-eqb n s.table.size l)
+      ∙ ap (top_frame t) last_is_top
+      ∙ ap₂ (λ (a k : ℕ). record { start = a; length = k }) start long
+
+  -- All frames fit: a job is started, so the table lists one.
+  pub frames_within : (n : ℕ) → well_formed s ≡ true → n ≡ s.table.size → frame_start (table_of s.table) (state_of s).stack ≤ n
+  frames_within n w l =
+      let some : length fs - 1 < length fs = slice_get_within fs (length fs - 1) f (sym h) in
+      rw l (frames_fit (table_of s.table) (state_of s) (well_active s w (omega (arith, ap length e, length-take s.depth s.stack))))

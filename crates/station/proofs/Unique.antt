@@ -1,0 +1,82 @@
+-- One outcome: any two results that a contract of this crate allows are equal, and so are the states and the memory that it leaves. Each
+-- contract is one equation of the result, or of its number, and a number has one word.
+use Rattle.std.specs.Prelude.{◌≡◌, ℕ, Result, Ok, Err, Option, Some, None}
+use Rattle.std.proofs.Common.{sym, ap, ◌∙◌, arith}
+use Rattle.table.specs.declared.JobNo.{JobNo}
+use Rattle.table.specs.declared.Level.{Level}
+use Rattle.table.specs.declared.Refusal.{Refusal}
+use Rattle.table.proofs.Numbers.{number_once, in_numbers_once, judged_once}
+use Rattle.tagged_event.specs.Answers.{event_of}
+use Rattle.station.specs.Reading.{level_said, job_said}
+use Rattle.station.specs.Sequence.{Applied}
+use Rattle.station.proofs.StartedDefault.default.Reads as started_of_zeros
+use Rattle.station.proofs.StateDefault.default.Reads as state_of_zeros
+use Rattle.station.proofs.State.fresh.Reads as fresh
+use Rattle.station.proofs.State.is_well_formed.Reads as is_well_formed
+use Rattle.station.proofs.State.ceiling.Reads as ceiling
+use Rattle.station.proofs.State.system_ceiling.Reads as system_ceiling
+use Rattle.station.proofs.State.running.Reads as running
+use Rattle.station.proofs.State.number_waiting.Reads as number_waiting
+use Rattle.station.proofs.State.waiting_word.Reads as waiting_word
+use Rattle.station.proofs.State.apply.Reads as apply
+use Rattle.station.proofs.State.running_frame.Reads as running_frame
+
+-- ---- a word for each answer in numbers
+
+pub level_once : (r s : Result Level Refusal) → level_said r ≡ level_said s → r ≡ s
+level_once (Ok x) (Ok y) e = grind arith
+level_once (Ok x) (Err y) e = grind arith
+level_once (Err x) (Ok y) e = grind arith
+level_once (Err x) (Err y) e = ap Err (number_once x y (grind arith))
+
+pub job_once : (r s : Result (Option JobNo) Refusal) → job_said r ≡ job_said s → r ≡ s
+job_once (Ok None) (Ok None) e = grind arith
+job_once (Ok None) (Ok (Some y)) e = grind arith
+job_once (Ok (Some x)) (Ok None) e = grind arith
+job_once (Ok (Some x)) (Ok (Some y)) e = grind arith
+job_once (Ok x) (Err y) e = grind arith
+job_once (Err x) (Ok y) e = grind arith
+job_once (Err x) (Err y) e = ap Err (number_once x y (grind arith))
+
+-- ---- the public functions
+
+pub started_of_zeros_agrees : (κs : _) (a : _) (r₁ r₂ : _) (x₁ x₂ : _) → started_of_zeros.Post κs a r₁ x₁ → started_of_zeros.Post κs a r₂ x₂ → r₁ ≡ r₂
+started_of_zeros_agrees κs a r₁ r₂ x₁ x₂ p q = p ∙ sym q
+
+pub state_of_zeros_agrees : (κs : _) (a : _) (r₁ r₂ : _) (x₁ x₂ : _) → state_of_zeros.Post κs a r₁ x₁ → state_of_zeros.Post κs a r₂ x₂ → r₁ ≡ r₂
+state_of_zeros_agrees κs a r₁ r₂ x₁ x₂ p q = p ∙ sym q
+
+pub fresh_agrees : (κs : _) (a : _) (r₁ r₂ : _) (x₁ x₂ : _) → fresh.Post κs a r₁ x₁ → fresh.Post κs a r₂ x₂
+    → (r₁.made ≡ r₂.made) × (r₁.state ≡ r₂.state)
+fresh_agrees κs a r₁ r₂ x₁ x₂ p q = (judged_once r₁.made r₂.made (p.0 ∙ sym q.0), p.1.0 ∙ sym q.1.0)
+
+pub is_well_formed_agrees : (κs : _) (a : _) (r₁ r₂ : _) (x₁ x₂ : _) → is_well_formed.Post κs a r₁ x₁ → is_well_formed.Post κs a r₂ x₂ → r₁ ≡ r₂
+is_well_formed_agrees κs a r₁ r₂ x₁ x₂ p q = p ∙ sym q
+
+pub ceiling_agrees : (κs : _) (a : _) (r₁ r₂ : _) (x₁ x₂ : _) → ceiling.Post κs a r₁ x₁ → ceiling.Post κs a r₂ x₂ → r₁ ≡ r₂
+ceiling_agrees κs a r₁ r₂ x₁ x₂ p q = level_once r₁ r₂ (p ∙ sym q)
+
+pub system_ceiling_agrees : (κs : _) (a : _) (r₁ r₂ : _) (x₁ x₂ : _) → system_ceiling.Post κs a r₁ x₁ → system_ceiling.Post κs a r₂ x₂ → r₁ ≡ r₂
+system_ceiling_agrees κs a r₁ r₂ x₁ x₂ p q = level_once r₁ r₂ (p ∙ sym q)
+
+pub running_agrees : (κs : _) (a : _) (r₁ r₂ : _) (x₁ x₂ : _) → running.Post κs a r₁ x₁ → running.Post κs a r₂ x₂ → r₁ ≡ r₂
+running_agrees κs a r₁ r₂ x₁ x₂ p q = job_once r₁ r₂ (p ∙ sym q)
+
+pub number_waiting_agrees : (κs : _) (a : _) (r₁ r₂ : _) (x₁ x₂ : _) → number_waiting.Post κs a r₁ x₁ → number_waiting.Post κs a r₂ x₂ → r₁ ≡ r₂
+number_waiting_agrees κs a r₁ r₂ x₁ x₂ p q = in_numbers_once r₁ r₂ (p ∙ sym q)
+
+pub waiting_word_agrees : (κs : _) (a : _) (r₁ r₂ : _) (x₁ x₂ : _) → waiting_word.Post κs a r₁ x₁ → waiting_word.Post κs a r₂ x₂ → r₁ ≡ r₂
+waiting_word_agrees κs a r₁ r₂ x₁ x₂ p q = in_numbers_once r₁ r₂ (p ∙ sym q)
+
+-- The state and the stack memory that it leaves as well.
+pub apply_agrees : (κs : _) (a : _) (r₁ r₂ : _) (x₁ x₂ : _) → apply.Post κs a r₁ x₁ → apply.Post κs a r₂ x₂
+    → (r₁ ≡ r₂) × (x₁.0.now ≡ x₂.0.now) × (x₁.1.1.0.now ≡ x₂.1.1.0.now)
+apply_agrees κs a r₁ r₂ x₁ x₂ p q = (job_once r₁ r₂ (p.0 ∙ sym q.0), p.1.0 ∙ sym q.1.0, p.1.1 ∙ sym q.1.1)
+
+-- What `apply` answers and leaves is what a sequence of events (specs/Sequence) asks of each step, so demand 3 speaks of its results.
+pub apply_applied : (κs : _) (a : _) (r : _) (x : _) → apply.Post κs a r x → Applied a.0.now a.1.1.0.now a.1.0 r x.0.now
+apply_applied κs a r x p = record { answered = p.0; left = p.1.0 }
+
+-- The frame's bytes. (Where what is written through it stands is said by `LendsFrame`, which is one function of the state and the memory.)
+pub running_frame_agrees : (κs : _) (a : _) (r₁ r₂ : _) (x₁ x₂ : _) → running_frame.Post κs a r₁ x₁ → running_frame.Post κs a r₂ x₂ → r₁.now ≡ r₂.now
+running_frame_agrees κs a r₁ r₂ x₁ x₂ p q = p ∙ sym q
