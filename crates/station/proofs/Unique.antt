@@ -77,6 +77,7 @@ apply_agrees κs a r₁ r₂ x₁ x₂ p q = (job_once r₁ r₂ (p.0 ∙ sym q.
 pub apply_applied : (κs : _) (a : _) (r : _) (x : _) → apply.Post κs a r x → Applied a.0.now a.1.1.0.now a.1.0 r x.0.now
 apply_applied κs a r x p = record { answered = p.0; left = p.1.0 }
 
--- The frame's bytes. (Where what is written through it stands is said by `LendsFrame`, which is one function of the state and the memory.)
-pub running_frame_agrees : (κs : _) (a : _) (r₁ r₂ : _) (x₁ x₂ : _) → running_frame.Post κs a r₁ x₁ → running_frame.Post κs a r₂ x₂ → r₁.now ≡ r₂.now
-running_frame_agrees κs a r₁ r₂ x₁ x₂ p q = p ∙ sym q
+-- The frame's bytes and its address. (Where what is written through it stands is said by `LendsFrame`, which is one function of the state and the memory.)
+pub running_frame_agrees : (κs : _) (a : _) (r₁ r₂ : _) (x₁ x₂ : _) → running_frame.Post κs a r₁ x₁ → running_frame.Post κs a r₂ x₂
+    → (r₁.now ≡ r₂.now) × (r₁.ref_ptr ≡ r₂.ref_ptr)
+running_frame_agrees κs a r₁ r₂ x₁ x₂ p q = (p.bytes ∙ sym q.bytes, p.address ∙ sym q.address)

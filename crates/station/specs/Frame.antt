@@ -1,5 +1,5 @@
 -- docs/RULES.md, "Refusal numbers", last paragraph: the running job's frame as a part of the stack memory.
-use Rattle.std.specs.Prelude.{◌&&◌, List, [], ◌∷◌, ◌++◌, ℕ, ◌+◌, ◌-◌, length, take, drop, eqb}
+use Rattle.std.specs.Prelude.{◌≡◌, ◌&&◌, List, [], ◌∷◌, ◌++◌, ℕ, ◌+◌, ◌-◌, length, take, drop, eqb}
 use Rattle.std.specs.Borrow.{Lends, MutBor, Fml, Array, u8}
 use Rattle.rules.specs.Choice.{pick}
 use Rattle.rules.specs.Table.{Table, frame_of}
@@ -39,6 +39,11 @@ part_of p m = take p.length (drop p.start m)
 -- The memory with other bytes in a part; every byte outside of it stays.
 abbrev pub with_part : Part → List ℕ → List ℕ → List ℕ
 with_part p m bytes = take p.start m ++ (bytes ++ drop (p.start + p.length) m)
+
+-- A slice is that part of the memory, by content and by address.
+pub record IsPart (p : Part) (memory part : MutBor (List ℕ)) : Type 0 where
+  pub bytes : part.now ≡ part_of p memory.now
+  pub address : part.ref_ptr ≡ (memory.ref_ptr.0, p.start + memory.ref_ptr.1)
 
 -- What a caller writes through the part stands there in the memory, and every byte outside of it stays.
 abbrev pub LendsPart : Part → MutBor (List ℕ) → MutBor (List ℕ) → Fml

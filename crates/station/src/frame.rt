@@ -1,7 +1,7 @@
 // The running job's frame, as a part of the stack memory that the caller lent.
 ghost use Rattle.std.specs.Prelude.{◌≡◌, ◌≤◌, length};
 ghost use Rattle.std.specs.Borrow.{sem};
-ghost use Rattle.station.specs.Frame.{part_between, running_part, part_of, LendsFrame};
+ghost use Rattle.station.specs.Frame.{IsPart, part_between, running_part, LendsFrame};
 
 use crate::State;
 
@@ -10,7 +10,7 @@ impl State {
     /// not the stack size, or nothing runs.
     pub fn running_frame<'a>(&self, memory: &'a mut [u8]) -> &'a mut [u8]
         ensures* lends { sem 𝓛 (LendsFrame self.now memory.entry result) }
-        ensures bytes { result.now ≡ part_of (running_part self.now (length memory.old)) memory.old }
+        ensures region { IsPart (running_part self.now (length memory.old)) memory.entry result }
     {
         let (start, end) = self.running_bytes(memory.len());
         &mut memory[start..end]

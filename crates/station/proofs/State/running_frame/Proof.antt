@@ -89,4 +89,4 @@ running_frame_spec 𝓤 𝓛 𝓜 𝓡 wired =
     rewrite ! 2 (λ (p : Part). ‵ (LendsPart p memory lent)) (sym part) refl $
     suffices ! _ (ends_at 𝓛 f.ended stayed c y (slice_val (b, start + o) n) lent (tt, (tt, tt)) (tt, (tt, tt))) $
     nothing ! $ nothing ! $ fjoin ! $ nothing ! $ fjoin ! $ join ! $ move ! (3 ∷ []) $ split ! $ move ! (3 ∷ 1 ∷ []) $ join ! $ move ! (1 ∷ 0 ∷ []) $ join ! $ join ! $
-    frame ! $ says ! (sym (ap (λ (p : Part). part_of p xs) part)) $ done !))))))))))))))
+    frame ! $ says ! (record { bytes = sym (ap (λ (p : Part). part_of p xs) part); address = sym (ap (λ (p : Part). (b, p.start + o)) part) }) $ done !))))))))))))))
