@@ -39,6 +39,7 @@ sys.dont_write_bytecode = True
 
 import tagged_model as model
 from tagged_model import make_field, make_table, two
+from vectors import STATION, full_table, held_table, limit_tables, numbers, rewrite_or_check, sized
 
 FOLDER = Path(__file__).resolve().parent.parent / "crates" / "tagged_vectors"
 SEED = 20261126
@@ -49,14 +50,9 @@ KIND_NAMES = {READ_TABLE: "read a table", WRITE_TABLE: "write a table", READ_EVE
 STATION_BYTES = bytes.fromhex(
     "01 00 01 01 02 00 02 00 5A 03 00 02 00 04 04 00 05 0A 00 28 00 04 04 00 05 14 00 1E 00 03 04 00 05 1E 00 14 00 01 05 00 00"
 )
-STATION = make_table(90, [4], [(10, 40, [4]), (20, 30, [3]), (30, 20, [1])])
 
 
 # The vectors: lists of (kind, bytes of the record, expected line).
-
-
-def numbers(values):
-    return "".join(f" {value}" for value in values)
 
 
 def table_text(table):
@@ -75,14 +71,6 @@ def reads_table(data):
     return READ_TABLE, data, line
 
 
-def table_record(table, buffer_length):
-    data = two(buffer_length) + two(table.size) + bytes([table.resource_count])
-    data += b"".join(two(units) for units in table.units) + bytes([table.job_count])
-    for job in table.jobs:
-        data += bytes([job.level]) + two(job.frame) + b"".join(two(need) for need in job.needs)
-    return data
-
-
 def written_text(answer):
     if answer[0] == "bytes":
         return f"bytes {answer[1].hex()}; rest kept"
@@ -93,7 +81,7 @@ def writes_table(table, buffer_length):
     kind, worst = model.worst_stack(table)
     worst_text = f"worst {worst}" if kind == "sum" else f"worst refused {worst}"
     line = f"{written_text(model.write_table(table, buffer_length))}; {worst_text}; judged {model.judge(table)}"
-    return WRITE_TABLE, table_record(table, buffer_length), line
+    return WRITE_TABLE, two(buffer_length) + held_table(table), line
 
 
 def event_text(event):
@@ -119,42 +107,9 @@ def writes_event(event, buffer_length):
 # Tables to start from.
 
 
-def sized(table, above=0):
-    """The table with its worst stack, or so many bytes above it, as its size."""
-    table.size = min(model.sum_of_worst_frames(table.jobs[: table.job_count]) + above, model.STACK_SIZE[-1])
-    return table
-
-
-def full_table():
-    """The longest table: 8 resources and 32 jobs, 756 bytes."""
-    units = [1, 2, 3, 10, 100, 500, 999, 1000]
-    jobs = [(1 + 8 * j, 1000 + j, [units[r] if (j + r) % 3 else 0 for r in range(8)]) for j in range(32)]
-    return sized(make_table(1, units, jobs))
-
-
 def sizes(*asked):
     """Those that a stack can have, each once."""
     return sorted({size for size in asked if size in model.STACK_SIZE})
-
-
-def limit_tables():
-    """Tables that could be written, at every limit."""
-    tables = [STATION, full_table()]
-    tables.append(make_table(1, [], [(1, 1, [])]))
-    tables.append(make_table(65535, [], [(255, 65535, [])]))
-    tables.append(make_table(65535, [], [(level, 1, []) for level in range(1, 33)]))
-    tables.append(make_table(65535, [], [(7, 65535, [])] * 32))
-    tables.append(make_table(40, [1], [(255, 40, [1]), (255, 39, [0]), (255, 1, [1])]))
-    tables.append(make_table(41, [1000], [(1, 40, [1000]), (255, 1, [0]), (1, 39, [999])]))
-    tables.append(make_table(2, [1] * 8, [(1, 1, [0] * 8), (2, 1, [1] * 8)]))
-    tables.append(make_table(2, [1000] * 8, [(1, 1, [1000] * 8), (2, 1, [0] * 8)]))
-    tables.append(make_table(65535, [1000] * 8, [(9, 2047, [1000] * 8)] * 32))
-    tables.append(make_table(256, [255, 256, 257], [(128, 255, [255, 256, 257]), (127, 1, [254, 0, 256])]))
-    for resources in range(0, 9):
-        tables.append(sized(make_table(1, [1 + r for r in range(resources)], [(50, 70, [1 + r for r in range(resources)])])))
-    for jobs in (2, 3, 31, 32):
-        tables.append(sized(make_table(1, [6], [(1 + j % 5, 10 + j, [j % 7]) for j in range(jobs)])))
-    return tables
 
 
 def random_table(rng, most_jobs=32):
@@ -611,19 +566,7 @@ def print_counts(vectors):
 
 def main():
     check_model_by_the_paper()
-    vectors = all_vectors()
-    files = {
-        FOLDER / "stdin": b"".join(bytes([kind]) + two(len(record)) + record for kind, record, _ in vectors),
-        FOLDER / "stdout": "".join(line + "\n" for _, _, line in vectors).encode(),
-    }
-    if "--check" in sys.argv[1:]:
-        differing = [path.name for path, data in files.items() if not path.is_file() or path.read_bytes() != data]
-        print(f"differ from what the model makes: {', '.join(differing)}" if differing else "both files are what the model makes")
-        return 1 if differing else 0
-    for path, data in files.items():
-        path.write_bytes(data)
-    print_counts(vectors)
-    return 0
+    return rewrite_or_check(FOLDER, all_vectors(), print_counts)
 
 
 if __name__ == "__main__":

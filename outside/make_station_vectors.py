@@ -1,0 +1,668 @@
+#!/usr/bin/env python3
+"""Makes the vectors of the scheduler: crates/station_vectors/stdin, and the answers that the model expects in stdout beside it.
+
+    python3 outside/make_station_vectors.py             rewrites both files and counts sequences, states, events and answers
+    python3 outside/make_station_vectors.py --check     exits with 1 if the files differ from what the model makes
+
+The input is a sequence of records: a byte for the kind, a length in two bytes, and that many bytes. Numbers have the high byte first.
+One state and one stack memory are kept; each record changes them.
+
+    1      fresh state    length of the stack memory (4), then a table as its arrays hold it: size (2), resource count (1), 8 units (2 each),
+                          job count (1), then 32 times level (1), frame (2), 8 needs (2 each). The state becomes that table's fresh
+                          state, the memory a new one.
+    2      table by hand  the same; its arrays and counts are stored into the state, whose stack and waiting jobs stay.
+    3      state by hand  depth (1), then 32 times job (1), 8 held (2 each); waiting count (1), then 32 jobs (1 each); stored into the
+                          state, whose table stays. The memory is given its pattern again.
+    4      memory         length (4) of a new memory
+    11-15  (hex) event    in its tagged form; it is applied
+
+A new memory has the pattern 1, 2, .. 251, 1, 2, .. After each line the running job's frame is filled, by way of `running_frame`, with
+the byte 1 + n mod 255, where n counts the lines before it. So no byte of the memory is zero that no start has cleared.
+
+The output has a line for each record, in five parts parted by ';'. A reader that is refused gives `r` and the number.
+
+    fresh N | table | state | memory | ANSWER STARTED     fresh: 0 or the refusal's number. ANSWER is 0 or the refusal's number,
+                                                          STARTED the job started or '-'
+    RUNNING CEILING WAITING WORD                          the running job or '-', the system ceiling, the number waiting, the waiting word
+    ceilings                                              of each listed resource, no more than 8, and of the one after them
+    well | ill                                            whether the state is well formed
+    DIGEST LENGTH                                         the digest, before the frame is filled, and the running job's frame's length
+
+The digest is the 32-bit FNV-1a over the state as in the records 1 to 3 (the table from its size on, then depth, stack, waiting count
+and waiting jobs), then over all of the memory.
+"""
+
+import copy
+import random
+import sys
+from collections import Counter
+from functools import lru_cache
+from pathlib import Path
+
+sys.dont_write_bytecode = True
+
+import station_model as model
+import tagged_model
+from station_model import Started, State, started_jobs, top, waiting_jobs
+from tagged_model import JOB_PLACES, RESOURCE_PLACES, Job, Refused, Table, make_table, two
+from vectors import STATION, full_table, held_table, limit_tables, numbers, rewrite_or_check, sized
+
+FOLDER = Path(__file__).resolve().parent.parent / "crates" / "station_vectors"
+SEED = 20261127
+FRESH, TABLE, STATE, MEMORY = 1, 2, 3, 4
+EVENTS_OF_A_SEQUENCE = 100
+# A sequence over a large memory is shorter, so that no more than so many bytes of it are gone over.
+BYTES_OF_A_SEQUENCE = 1_000_000
+
+# The rules' log.
+STATION_LOG = [
+    ("arrive", 0), ("acquire", 0, 0, 2), ("arrive", 1), ("arrive", 2), ("acquire", 2, 0, 1), ("finish", 2), ("release", 2, 0, 1),
+    ("finish", 2), ("release", 0, 0, 1), ("acquire", 1, 0, 3), ("arrive", 0),
+]  # fmt: skip
+
+
+# The lines.
+
+
+def held_jobs(state):
+    """The stack and the waiting jobs as their arrays hold them."""
+    data = bytes([state.depth])
+    data += b"".join(bytes([started.job]) + b"".join(two(held) for held in started.held) for started in state.stack)
+    return data + bytes([state.waiting_count]) + bytes(state.waiting)
+
+
+def digest(data, value=0x811C9DC5):
+    """The 32-bit FNV-1a of some bytes, or of those that gave a value and then these."""
+    for byte in data:
+        value = ((value ^ byte) * 0x01000193) & 0xFFFFFFFF
+    return value
+
+
+# A table and a state mostly stay for some lines.
+digest_of_state = lru_cache(64)(digest)
+
+
+def said(reading, as_word=False):
+    """What a reader says: its value, '-' for none, or the refusal."""
+    kind, value = reading
+    if kind == "refused":
+        return f"r{value}"
+    if value is None:
+        return "-"
+    return f"{value:08x}" if as_word else str(value)
+
+
+class Station:
+    """A state and its memory, to which records are given one by one; and the vectors that they make."""
+
+    def __init__(self):
+        self.state = State()
+        self.memory = bytearray()
+        self.vectors = []
+
+    def fresh(self, table, memory_length=None):
+        length = table.size if memory_length is None else memory_length
+        answer, self.state = model.fresh_state(copy.deepcopy(table))
+        self.lend(length)
+        self.add(FRESH, length.to_bytes(4, "big") + held_table(table), f"fresh {answer}")
+
+    def hold_table(self, table):
+        self.state.table = copy.deepcopy(table)
+        self.add(TABLE, held_table(table), "table")
+
+    def hold_state(self, state):
+        """Stores the stack and the waiting jobs of a state."""
+        held = copy.deepcopy(state)
+        held.table, self.state = self.state.table, held
+        self.lend(len(self.memory))
+        self.add(STATE, held_jobs(state), "state")
+
+    def hold(self, state):
+        """Stores a whole state, and lends a memory of its stack size."""
+        self.hold_table(state.table)
+        self.lend_memory(state.table.size)
+        self.hold_state(state)
+
+    def lend(self, length):
+        self.memory = bytearray((bytes(range(1, 252)) * (length // 251 + 1))[:length])
+
+    def lend_memory(self, length):
+        self.lend(length)
+        self.add(MEMORY, length.to_bytes(4, "big"), "memory")
+
+    def apply(self, event):
+        field = tagged_model.write_event(event, 7)[1]
+        answer, started = model.apply(self.state, self.memory, event)
+        self.add(field[0], field[3:], f"{answer} {'-' if started is None else started}")
+
+    def add(self, kind, record, own_part):
+        """Adds a record and its line, then fills the frame."""
+        state, memory = self.state, self.memory
+        resources = min(state.table.resource_count, RESOURCE_PLACES) + 1
+        running, system, number, word, *ceilings = model.readings(
+            state, (model.running, []), (model.system_ceiling, []), (model.number_waiting, []), (model.waiting_word, []),
+            *((model.ceiling, [resource]) for resource in range(resources)),
+        )  # fmt: skip
+        readers = [said(running), said(system), said(number), said(word, as_word=True)]
+        start, end = model.running_frame(state, len(memory))
+        all_bytes = digest(memory, digest_of_state(held_jobs(state), digest_of_state(held_table(state.table))))
+        well = "well" if model.is_well_formed(state) else "ill"
+        line = f"{own_part};{numbers(readers)};{numbers(map(said, ceilings))}; {well}; {all_bytes:08x} {end - start}"
+        memory[start:end] = bytes([1 + len(self.vectors) % 255]) * (end - start)
+        self.vectors.append((kind, record, line))
+
+
+# Events.
+
+
+def started_numbers(state):
+    return [started.job for started in started_jobs(state)]
+
+
+def inactive_jobs(state):
+    active = started_numbers(state) + waiting_jobs(state)
+    return [job for job in range(state.table.job_count) if job not in active]
+
+
+def some_amount(rng, most):
+    return rng.choice([1, most, rng.randint(1, most)])
+
+
+def acquires(rng, state):
+    """An acquire that will be accepted for each resource of which one may be."""
+    table, running = state.table, top(state)
+    for r in range(table.resource_count if running else 0):
+        most = min(table.jobs[running.job].needs[r] - running.held[r], model.free_units(state, r))
+        if most > 0:
+            yield "acquire", running.job, r, some_amount(rng, most)
+
+
+def releases(rng, state):
+    running = top(state)
+    for r, held in enumerate(running.held if running else []):
+        if held:
+            yield "release", running.job, r, some_amount(rng, held)
+
+
+def arrivals(rng, state, deep):
+    """An arrival of each job that may arrive; where the stack is to be deep, of the lowest that would start, if any would."""
+    jobs, ceiling = inactive_jobs(state), model.system_ceiling(state)
+    starting = [job for job in jobs if model.level_of(state, job) > ceiling]
+    if starting and rng.random() < deep:
+        jobs = [min(starting, key=lambda job: model.level_of(state, job))]
+    return [("arrive", job) for job in jobs]
+
+
+def useful_event(rng, state, temper):
+    """An event that is accepted, or None if there is none."""
+    running = top(state)
+    holds = running is not None and any(running.held)
+    choices = {
+        "arrive": arrivals(rng, state, temper["deep"]),
+        "acquire": list(acquires(rng, state)),
+        "release": list(releases(rng, state)),
+        "release_all": [("release_all", running.job)] if holds else [],
+        "finish": [("finish", running.job)] if running and not holds else [],
+    }
+    kinds = [kind for kind in choices if choices[kind]]
+    if not kinds:
+        return None
+    return rng.choice(choices[rng.choices(kinds, [temper[kind] for kind in kinds])[0]])
+
+
+TEMPERS = [
+    # Jobs start one above another, and hold a little.
+    {"deep": 0.95, "arrive": 6, "acquire": 2, "release": 0.7, "release_all": 0.3, "finish": 0.4},
+    # The running job takes much, and the others wait.
+    {"deep": 0.1, "arrive": 5, "acquire": 6, "release": 2, "release_all": 0.7, "finish": 1},
+    # Jobs come and go.
+    {"deep": 0.3, "arrive": 4, "acquire": 3, "release": 1, "release_all": 2, "finish": 5},
+    {"deep": 0.6, "arrive": 3, "acquire": 3, "release": 3, "release_all": 1, "finish": 2},
+]
+
+
+def refused_event(rng, state, number):
+    """An event that is refused with this number, or None if there is none."""
+    for _ in range(6):
+        event = maybe_refused(rng, state, number)
+        if event and model.answer_of(state, state.table.size, event) == number:
+            return event
+    return None
+
+
+def maybe_refused(rng, state, number):
+    """An event that may be refused with this number, or None."""
+    table = state.table
+    active = started_numbers(state) + waiting_jobs(state)
+    runs = top(state).job if top(state) else rng.randrange(table.job_count)
+    resource = rng.randrange(table.resource_count) if table.resource_count else 0
+    held = top(state).held[resource] if top(state) else 0
+    need = table.jobs[runs].needs[resource]
+    unlisted = rng.choice([table.resource_count, RESOURCE_PLACES, 255, rng.randint(table.resource_count, 255)])
+    moves = ["acquire", "release"]
+    return {
+        model.NO_SUCH_JOB: lambda: any_event(rng, rng.choice([table.job_count, 32, 255, rng.randint(table.job_count, 255)]), resource),
+        model.ALREADY_ACTIVE: lambda: ("arrive", rng.choice(active)) if active else None,
+        model.NOT_RUNNING: lambda: any_event(rng, rng.choice(active or [runs]), rng.choice([resource, unlisted])),
+        model.NO_SUCH_RESOURCE: lambda: (rng.choice(moves), runs, unlisted, rng.choice([0, 1, 65535])),
+        model.AMOUNT_ZERO: lambda: (rng.choice(moves), runs, resource, 0),
+        model.ABOVE_NEED: lambda: ("acquire", runs, resource, rng.choice([need - held + 1, need - held + 1, need + 1, 65535])),
+        model.ABOVE_FREE: lambda: ("acquire", runs, resource, max(need - held, 0)),
+        model.ABOVE_HELD: lambda: ("release", runs, resource, rng.choice([held + 1, held + 1, need + 1, 65535])),
+        model.STILL_HOLDS: lambda: ("finish", runs),
+        model.HOLDS_NOTHING: lambda: ("release_all", runs),
+    }[number]()
+
+
+# 18 is answered in states made by hand alone.
+REFUSALS = [number for number in range(model.NO_SUCH_JOB, model.HOLDS_NOTHING + 1) if number != model.ABOVE_FREE]
+
+
+def any_event(rng, job, resource):
+    name = rng.choice(tagged_model.EVENTS)
+    return (name, job, resource, rng.choice([0, 1, 2, 1000, 65535])) if name in ("acquire", "release") else (name, job)
+
+
+def random_event(rng, table):
+    """An event of a job and a resource, listed or little past the last."""
+    return any_event(rng, rng.randint(0, table.job_count), rng.randint(0, table.resource_count))
+
+
+def next_event(rng, state, temper):
+    """Mostly a useful event, sometimes one that is refused, rarely any."""
+    dice = rng.random()
+    event = None
+    if dice < 0.25:
+        event = refused_event(rng, state, rng.choice(REFUSALS))
+    elif dice < 0.96:
+        event = useful_event(rng, state, temper)
+    return event or random_event(rng, state.table)
+
+
+# Sequences from a fresh state.
+
+
+def random_levels(rng, jobs):
+    """Levels of a shape: rising or falling by table order, equal, few, many."""
+    steps = rng.sample(range(1, 256), jobs)
+    few = [rng.randint(1, 255) for _ in range(rng.randint(2, 4))]
+    return rng.choice([
+        sorted(steps), sorted(steps, reverse=True), steps, [rng.randint(1, 255)] * jobs, [rng.choice(few) for _ in range(jobs)],
+        [1 + j for j in range(jobs)], [255 - j for j in range(jobs)], [1 + j // 2 for j in range(jobs)],
+    ])  # fmt: skip
+
+
+def random_needs(rng, units, shape):
+    """A job's needs of a shape: all at their limits, few, any."""
+    if shape == "limit":
+        return list(units)
+    if shape == "few":
+        return [rng.choice([0, 0, 0, 1, u]) for u in units]
+    return [rng.choice([0, 1, u, rng.randint(0, u)]) for u in units]
+
+
+def random_table(rng):
+    """A table that could be written, mostly with a small stack."""
+    jobs = rng.choice([1, 2, 3, 4, 5, 6, 8, 12, 20, 31, 32, rng.randint(1, 32)])
+    units = [rng.choice([1, 1, 2, 3, 4, 8, 1000, rng.randint(1, 1000)]) for _ in range(rng.choice([0, 1, 1, 2, 3, 4, 6, 8]))]
+    shape = rng.choice(["limit", "few", "few", "few", "any", "any"])
+    most = rng.choice([1, 9, 30, 60])
+    described = [(level, rng.randint(1, most), random_needs(rng, units, shape)) for level in random_levels(rng, jobs)]
+    return sized(make_table(1, units, described), rng.choice([0, 0, 1, 17]))
+
+
+def play(rng, station, temper, count):
+    """Applies events that are chosen for the states that they meet."""
+    for _ in range(min(count, max(20, BYTES_OF_A_SEQUENCE // max(1, len(station.memory))))):
+        station.apply(next_event(rng, station.state, temper))
+
+
+def sequences(rng, station):
+    """How many sequences were added."""
+    station.fresh(STATION)
+    for event in STATION_LOG:
+        station.apply(event)
+    tables = [STATION] * 12 + limit_tables() + [random_table(rng) for _ in range(180)]
+    for place, table in enumerate(tables):
+        station.fresh(table)
+        play(rng, station, TEMPERS[place % len(TEMPERS)], EVENTS_OF_A_SEQUENCE)
+    return 1 + len(tables)
+
+
+# States made by hand.
+
+
+def make_state(table, started, waiting):
+    """The state with these started jobs, each a pair of the job and what it holds, and these waiting."""
+    state = State(table=copy.deepcopy(table))
+    model.put_started(state, [Started(job, held + [0] * (RESOURCE_PLACES - len(held))) for job, held in started])
+    model.put_waiting(state, list(waiting))
+    return state
+
+
+# Six jobs, two of them at one level, and three resources; two bytes more than the worst stack.
+HAND_TABLE = sized(
+    make_table(
+        1,
+        [4, 2, 6],
+        [(10, 5, [4, 1, 3]), (20, 7, [3, 2, 0]), (20, 6, [0, 2, 6]), (30, 3, [1, 1, 2]), (40, 4, [1, 0, 6]), (50, 2, [0, 2, 1])],
+    ),
+    2,
+)
+# Three started jobs, and two waiting.
+HAND_STATE = make_state(HAND_TABLE, [(0, [2, 0, 1]), (1, [1, 1, 0]), (3, [0, 0, 2])], [4, 2])
+
+# 32 jobs, job 0 the lowest, each with a frame and a need of its own; and 32 at one level.
+STAIRS = sized(make_table(1, [32, 1], [(10 + 5 * j, 1 + j % 7, [1 + j % 3, j % 2]) for j in range(JOB_PLACES)]))
+FLAT = sized(make_table(1, [32], [(77, 1 + j % 9, [1]) for j in range(JOB_PLACES)]), 5)
+
+
+def never_reached():
+    """Well-formed states that no events lead to, or that few lead to."""
+    station, hand, stairs, flat = STATION, HAND_TABLE, STAIRS, FLAT
+    every = range(JOB_PLACES)
+    return [
+        HAND_STATE,
+        # 18: units are held that the running job still needs.
+        make_state(station, [(0, [3]), (1, [0])], []),
+        make_state(station, [(0, [4]), (1, [0])], [2]),
+        make_state(station, [(0, [2]), (1, [2])], []),
+        make_state(station, [(0, [4]), (2, [0])], []),
+        make_state(hand, [(0, [4, 1, 3]), (1, [0, 1, 0]), (3, [0, 0, 2]), (4, [0, 0, 1])], [5]),
+        # Jobs wait while nothing runs.
+        make_state(station, [], [0]),
+        make_state(station, [], [2, 1, 0]),
+        make_state(hand, [], [5, 2, 1]),
+        make_state(flat, [], reversed(every)),
+        make_state(flat, [], [*every][:31]),
+        make_state(stairs, [], reversed(every)),
+        # The head is due to start, and its test was not made; the one behind it too.
+        make_state(station, [(0, [0])], [2, 1]),
+        make_state(hand, [(0, [0, 0, 0]), (2, [0, 0, 1])], [5, 4, 3]),
+        make_state(hand, [(1, [3, 2, 0])], [5]),
+        # Equal levels wait in either order; the waiting have the level of the running job, or stand below it.
+        make_state(hand, [(0, [0, 0, 3])], [1, 2]),
+        make_state(hand, [(0, [0, 0, 3])], [2, 1]),
+        make_state(hand, [(2, [0, 0, 0])], [1, 0]),
+        make_state(hand, [(5, [0, 2, 1])], [4, 3, 2, 1, 0]),
+        # All units are held, each job holds its need.
+        make_state(hand, [(0, [4, 1, 3]), (3, [0, 1, 2])], []),
+        make_state(hand, [(2, [0, 2, 6])], [1]),
+        # Every job is on the stack; half of them; one among those that wait.
+        make_state(stairs, [(j, [1, 0]) for j in every], []),
+        make_state(stairs, [(j, [0, int(j == 31)]) for j in every], []),
+        make_state(stairs, [(j, [1, 0]) for j in range(0, 32, 2)], range(31, 0, -2)),
+        make_state(stairs, [(30, [1, 0])], [31] + [*range(29, 0, -1)]),
+        make_state(flat, [(16, [1])], [j for j in every if j not in (3, 16)]),
+        make_state(full_table(), [(2, [0] * 8), (31, [1, 2, 0, 10, 100, 0, 999, 1000])], [30, 7]),
+        make_state(full_table(), [], []),
+    ]
+
+
+def random_state(rng):
+    """A well-formed state."""
+    table = random_table(rng)
+    state = make_state(table, [], [])
+    jobs = rng.sample(range(table.job_count), rng.randint(0, table.job_count))
+    below, started = 0, []
+    for job in sorted(jobs[: rng.randint(0, len(jobs))], key=lambda job: table.jobs[job].level):
+        if table.jobs[job].level > below:
+            below = table.jobs[job].level
+            held = []
+            for r in range(table.resource_count):
+                free = table.units[r] - sum(other[1][r] for other in started)
+                held.append(rng.choice([0, 1, 1]) * rng.randint(0, min(table.jobs[job].needs[r], free)))
+            started.append((job, held))
+    on_stack = [job for job, _ in started]
+    waiting = sorted((job for job in jobs if job not in on_stack), key=lambda job: -table.jobs[job].level)
+    return make_state(table, started, waiting[: rng.choice([len(waiting), len(waiting), 1])])
+
+
+def hand_made(rng, station):
+    """How many well-formed states were added. 18 is asked for first, and again where it is to be had."""
+    states = never_reached() + [random_state(rng) for _ in range(90)]
+    for place, state in enumerate(states):
+        assert model.is_well_formed(state)
+        station.hold(state)
+        for number in [model.ABOVE_FREE] + REFUSALS:
+            event = refused_event(rng, station.state, number)
+            if event:
+                station.apply(event)
+        play(rng, station, TEMPERS[place % len(TEMPERS)], 16)
+    return len(states)
+
+
+# States that break one part of the sentence.
+
+
+def changed(state, change):
+    state = copy.deepcopy(state)
+    change(state)
+    return state
+
+
+def broken_tables():
+    """Tables that can't be written, inside of a state: counts (2), values and what stands past the counts (4), the worst stack (5)."""
+    changes = [lambda table, n=n: setattr(table, "resource_count", n) for n in (9, 10, 255)]
+    changes += [lambda table, n=n: setattr(table, "job_count", n) for n in (0, 33, 34, 255)]
+    changes += [lambda table: setattr(table, "size", 0)]
+    changes += [lambda table, n=n, r=r: table.units.__setitem__(r, n) for r in (0, 2) for n in (0, 1001, 65535)]
+    changes += [lambda table, r=r: table.units.__setitem__(r, 1) for r in (3, 7)]
+    for j in (0, 5):
+        changes += [lambda table, j=j: setattr(table.jobs[j], "level", 0), lambda table, j=j: setattr(table.jobs[j], "frame", 0)]
+        changes += [lambda table, j=j, r=r: table.jobs[j].needs.__setitem__(r, 7) for r in (0, 2)]
+        changes += [lambda table, j=j, r=r: table.jobs[j].needs.__setitem__(r, 1) for r in (3, 7)]
+    for j in (6, 31):
+        changes += [lambda table, j=j: setattr(table.jobs[j], "level", 1), lambda table, j=j: setattr(table.jobs[j], "frame", 1)]
+        changes += [lambda table, j=j: table.jobs[j].needs.__setitem__(0, 1), lambda table, j=j: table.jobs.__setitem__(j, Job(1, 1))]
+    changes += [lambda table: setattr(table, "size", table.size - 3), lambda table: setattr(table, "size", 1)]
+    changes += [lambda table: setattr(table.jobs[4], "frame", table.jobs[4].frame + 3)]
+    for table_change in changes:
+        yield changed(HAND_STATE, lambda state: table_change(state.table))
+
+
+def broken_counts():
+    """Counts above the arrays, these full and not."""
+    full_stack = make_state(STAIRS, [(j, [0, 0]) for j in range(JOB_PLACES)], [])
+    all_wait = make_state(STAIRS, [], range(31, -1, -1))
+    for n in (33, 34, 64, 128, 255):
+        for state in (full_stack, HAND_STATE, make_state(STATION, [], [])):
+            yield changed(state, lambda state: setattr(state, "depth", n))
+        for state in (all_wait, HAND_STATE, make_state(STATION, [], [])):
+            yield changed(state, lambda state: setattr(state, "waiting_count", n))
+
+
+def past_the_counts():
+    """An entry past a count that is not zero: on the stack, among its held units, among the waiting."""
+    empty = make_state(HAND_TABLE, [], [])
+    for state in (HAND_STATE, empty):
+        for place in sorted({state.depth, state.depth + 1, 15, 30, 31}):
+            for job in (1, 5, 255):
+                yield changed(state, lambda state: setattr(state.stack[place], "job", job))
+            for r in (0, 2, 3, 7):
+                yield changed(state, lambda state: state.stack[place].held.__setitem__(r, 1))
+        for place in sorted({state.waiting_count, state.waiting_count + 1, 15, 30, 31}):
+            for job in (1, 5, 255):
+                yield changed(state, lambda state: state.waiting.__setitem__(place, job))
+    for place in range(HAND_STATE.depth):
+        for r in range(HAND_TABLE.resource_count, RESOURCE_PLACES):
+            yield changed(HAND_STATE, lambda state: state.stack[place].held.__setitem__(r, 1))
+    bare = make_state(make_table(9, [], [(1, 9, [])]), [(0, [])], [])
+    yield changed(bare, lambda state: state.stack[0].held.__setitem__(0, 1))
+
+
+def broken_jobs():
+    """Jobs that aren't listed; jobs that stand twice."""
+    for job in (6, 7, 31, 32, 33, 127, 128, 255):
+        yield make_state(HAND_TABLE, [(job, [])], [])
+        yield make_state(HAND_TABLE, [(job, []), (3, [])], [2])
+        yield make_state(HAND_TABLE, [(0, []), (job, [])], [2])
+        yield make_state(HAND_TABLE, [], [job])
+        yield make_state(HAND_TABLE, [(0, [])], [4, 2, job])
+        yield make_state(HAND_TABLE, [(0, [])], [job, 4, 2])
+    for job in (0, 3, 5):
+        yield make_state(HAND_TABLE, [(job, []), (job, [])], [])
+    yield make_state(HAND_TABLE, [(0, []), (3, []), (0, [])], [])
+    yield make_state(HAND_TABLE, [], [2, 2])
+    yield make_state(HAND_TABLE, [(0, [])], [4, 2, 1, 2])
+    yield make_state(HAND_TABLE, [(3, [])], [5, 0, 0])
+    yield make_state(HAND_TABLE, [(3, [])], [3])
+    yield make_state(HAND_TABLE, [(0, []), (2, []), (5, [])], [4, 2])
+    yield make_state(HAND_TABLE, [(0, []), (2, []), (5, [])], [5, 1])
+    yield make_state(HAND_TABLE, [(0, []), (2, []), (5, [])], [1, 0])
+    yield make_state(FLAT, [(31, [])], range(JOB_PLACES))
+    yield make_state(FLAT, [], [*range(31), 30])
+
+
+def broken_orders():
+    """Levels that are equal or fall up the stack; levels that rise among the waiting."""
+    for started in ([1, 2], [2, 1], [3, 0], [0, 1, 2], [0, 2, 1, 5], [0, 3, 1], [1, 0, 3, 5], [0, 1, 3, 5, 4]):
+        yield make_state(HAND_TABLE, [(job, []) for job in started], [])
+    for waiting in ([2, 3], [0, 1], [4, 2, 5], [5, 4, 2, 3], [5, 4, 3, 2, 0, 1], [3, 4, 2]):
+        yield make_state(HAND_TABLE, [], waiting)
+    every = [*range(JOB_PLACES)]
+    yield make_state(STAIRS, [(j, []) for j in every[:30] + [31, 30]], [])
+    yield make_state(STAIRS, [], every[:1:-1] + [0, 1])
+    yield make_state(STAIRS, [], [30, 31] + every[29::-1])
+
+
+def broken_holdings():
+    """Held above the need, at each place of the stack; held above the units in sum, each job within its need."""
+    for place, started in enumerate(started_jobs(HAND_STATE)):
+        for r in range(HAND_TABLE.resource_count):
+            need = HAND_TABLE.jobs[started.job].needs[r]
+            for held in (need + 1, 65535):
+                yield changed(HAND_STATE, lambda state: state.stack[place].held.__setitem__(r, held))
+    yield make_state(HAND_TABLE, [(0, [2]), (1, [3])], [])
+    yield make_state(HAND_TABLE, [(0, [0, 1]), (1, [0, 1]), (3, [0, 1])], [])
+    yield make_state(HAND_TABLE, [(0, [0, 0, 1]), (4, [0, 0, 6])], [])
+    yield make_state(HAND_TABLE, [(2, [0, 0, 6]), (3, [0, 0, 1])], [5])
+    yield make_state(HAND_TABLE, [(0, [4, 1, 3]), (1, [3, 2, 0])], [])
+    yield make_state(STAIRS, [(j, [1 + j % 3]) for j in range(JOB_PLACES)], [])
+    # So much in sum that it is more than two bytes hold.
+    wide = sized(make_table(1, [3, 1000], [(1 + j, 1, [0, 1000]) for j in range(JOB_PLACES)]))
+    yield make_state(wide, [(j, [0, 500]) for j in range(3)], [])
+    yield make_state(wide, [(j, [0, 1000]) for j in range(JOB_PLACES)], [])
+    yield changed(make_state(wide, [(j, [0, 0]) for j in range(JOB_PLACES)], []), lambda state: hold_each(state, [2048] * 32))
+    yield changed(make_state(wide, [(j, [0, 0]) for j in range(JOB_PLACES)], []), lambda state: hold_each(state, [65535, 1] + [0] * 30))
+
+
+def hold_each(state, held):
+    """Each started job holds so many units of resource 1."""
+    for started, units in zip(state.stack, held):
+        started.held[1] = units
+
+
+def broken_states():
+    for groups in (broken_tables, broken_counts, past_the_counts, broken_jobs, broken_orders, broken_holdings):
+        yield from groups()
+
+
+def some_of_each(state):
+    """An event of each kind, of the running job and of an inactive one if the state has them, and an event of an unlisted job."""
+    running = top(state).job if top(state) else 0
+    inactive = next(iter(inactive_jobs(state)), 0)
+    return [("arrive", inactive), ("acquire", running, 0, 1), ("release", running, 0, 1), ("release_all", running), ("finish", running), ("arrive", 255)]
+
+
+def broken(station):
+    """How many states break which part. Each is met by events with the right memory, and one with a memory too short (10 before 11)."""
+    parts = Counter()
+    for place, state in enumerate(broken_states()):
+        parts[model.first_broken_part(state).__name__] += 1
+        if station.state.table != state.table:
+            station.hold_table(state.table)
+        if len(station.memory) != state.table.size:
+            station.lend_memory(state.table.size)
+        station.hold_state(state)
+        events = some_of_each(state)
+        for event in events if place % 3 == 0 else [events[place % 6], events[(place + 1) % 6]]:
+            station.apply(event)
+        if place % 8 == 0:
+            station.lend_memory(state.table.size + 1)
+            station.apply(events[place % 5])
+            station.apply(events[5])
+    return parts
+
+
+def refused_tables(station):
+    """Fresh states that are refused, with 2, 4 and 5; the state of zeros that is handed back takes events."""
+    for state in broken_tables():
+        station.fresh(state.table)
+        station.apply(("arrive", 0))
+    station.fresh(Table())
+    station.apply(("finish", 0))
+
+
+# Memories of the wrong length.
+
+
+def wrong_memories(rng, station):
+    for state in (make_state(STATION, [], []), make_state(STATION, [(0, [2])], [1]), HAND_STATE, make_state(STAIRS, [(3, [1])], [5])):
+        size = state.table.size
+        station.hold(state)
+        play(rng, station, TEMPERS[3], 4)
+        for length in (size - 1, size + 1, 0, 1, 2 * size, size + 65536):
+            station.lend_memory(length)
+            for event in some_of_each(station.state):
+                station.apply(event)
+        # The state went through all of it as it was.
+        station.lend_memory(size)
+        play(rng, station, TEMPERS[3], 12)
+    for length in (0, 89, 91, 65535):
+        station.fresh(STATION, length)
+        for event in STATION_LOG[:3] + [("arrive", 3), ("finish", 255)]:
+            station.apply(event)
+        station.lend_memory(90)
+        for event in STATION_LOG:
+            station.apply(event)
+
+
+# All of them.
+
+
+def print_counts(vectors):
+    answers = Counter(line.split(";")[0].split()[0] for kind, _, line in vectors if kind > MEMORY)
+    starts = sum(line.split(";")[0].split()[1] != "-" for kind, _, line in vectors if kind > MEMORY)
+    kinds = Counter(kind for kind, _, _ in vectors)
+    fresh = Counter(line.split(";")[0] for kind, _, line in vectors if kind == FRESH)
+    print(f"events: {sum(answers.values())}; starts: {starts}")
+    print("answers: " + ", ".join(f"{answer}: {count}" for answer, count in sorted(answers.items(), key=lambda pair: int(pair[0]))))
+    print("fresh states: " + ", ".join(f"{answer}: {count}" for answer, count in sorted(fresh.items())))
+    print(f"tables by hand: {kinds[TABLE]}; states by hand: {kinds[STATE]}; memories: {kinds[MEMORY]}; vectors: {len(vectors)}")
+
+
+def check_model_by_the_paper():
+    """The rules' own log, before anything is made from the model."""
+    rows = [
+        "0 0 0 10 0 00000000", "0 - 0 20 0 00000000", "0 - 0 20 1 00000002", "0 2 2 30 1 00000002", "0 - 2 30 1 00000002",
+        "20 - 2 30 1 00000002", "0 - 2 30 1 00000002", "0 - 0 20 1 00000002", "0 1 1 20 0 00000000", "0 - 1 30 0 00000000",
+        "13 - 1 30 0 00000000",
+    ]  # fmt: skip
+    station = Station()
+    station.fresh(STATION)
+    for event, row in zip(STATION_LOG, rows, strict=True):
+        station.apply(event)
+        own, readers = station.vectors[-1][2].split(";")[:2]
+        assert own + readers == row
+    assert [model.ceiling_with(STATION, 0, free) for free in (4, 3, 2, 1, 0)] == [0, 10, 20, 20, 30]
+    assert model.fresh_state(make_table(89, [4], [(10, 40, [4]), (20, 30, [3]), (30, 20, [1])]))[0] == 5
+
+
+def main():
+    check_model_by_the_paper()
+    station, rng = Station(), random.Random(SEED)
+    count = sequences(rng, station)
+    from_fresh = len(station.vectors) - count
+    well = hand_made(rng, station)
+    ill = broken(station)
+    refused_tables(station)
+    wrong_memories(rng, station)
+    status = rewrite_or_check(FOLDER, station.vectors, print_counts)
+    print(f"sequences from a fresh state: {count}, of {from_fresh} events; well-formed states by hand: {well}; broken: {sum(ill.values())}")
+    print("broken by part: " + ", ".join(f"{name} {n}" for name, n in ill.items()))
+    return status
+
+
+if __name__ == "__main__":
+    sys.exit(main())
