@@ -10,23 +10,25 @@ One state and one stack memory are kept; each record changes them.
     1      fresh state    length of the stack memory (4), then a table as its arrays hold it: size (2), resource count (1), 8 units (2 each),
                           job count (1), then 32 times level (1), frame (2), 8 needs (2 each). The state becomes that table's fresh
                           state, the memory a new one.
-    2      table by hand  the same; its arrays and counts are stored into the state, whose stack and waiting jobs stay.
+    2      table by hand  the same without the length; its arrays and counts are stored into the state, whose stack and waiting jobs stay
     3      state by hand  depth (1), then 32 times job (1), 8 held (2 each); waiting count (1), then 32 jobs (1 each); stored into the
                           state, whose table stays. The memory is given its pattern again.
     4      memory         length (4) of a new memory
+    5      ceiling        resource (1) whose ceiling is asked for
     11-15  (hex) event    in its tagged form; it is applied
 
 A new memory has the pattern 1, 2, .. 251, 1, 2, .. After each line the running job's frame is filled, by way of `running_frame`, with
-the byte 1 + n mod 255, where n counts the lines before it. So no byte of the memory is zero that no start has cleared.
+the byte 1 + n mod 255, where n counts the lines since the memory was given its pattern. So no byte of it is zero that no start has cleared.
 
-The output has a line for each record, in five parts parted by ';'. A reader that is refused gives `r` and the number.
+The output has a line for each record. A reader that is refused gives `r` and the number.
 
-    fresh N | table | state | memory | ANSWER STARTED     fresh: 0 or the refusal's number. ANSWER is 0 or the refusal's number,
-                                                          STARTED the job started or '-'
-    RUNNING CEILING WAITING WORD                          the running job or '-', the system ceiling, the number waiting, the waiting word
-    ceilings                                              of each listed resource, no more than 8, and of the one after them
-    well | ill                                            whether the state is well formed
-    DIGEST LENGTH                                         the digest, before the frame is filled, and the running job's frame's length
+    FIRST RUNNING CEILING WAITING WORD LENGTH DIGEST
+
+    FIRST      of an event the answer, 0 or the refusal's number, and the job started or '-'; else `fresh` and 0 or the refusal's number,
+               `table` or `state` and `well` or `ill` for a state that is well formed or not, `memory -`, `ceiling` and the ceiling asked for
+    RUNNING    the running job or '-'; then the system ceiling, the number waiting, the waiting word
+    LENGTH     the running job's frame's length
+    DIGEST     before the frame is filled
 
 The digest is the 32-bit FNV-1a over the state as in the records 1 to 3 (the table from its size on, then depth, stack, waiting count
 and waiting jobs), then over all of the memory.
@@ -45,11 +47,11 @@ import station_model as model
 import tagged_model
 from station_model import Started, State, started_jobs, top, waiting_jobs
 from tagged_model import JOB_PLACES, RESOURCE_PLACES, Job, Refused, Table, make_table, two
-from vectors import STATION, full_table, held_table, limit_tables, numbers, rewrite_or_check, sized
+from vectors import STATION, full_table, held_table, limit_tables, rewrite_or_check, sized
 
 FOLDER = Path(__file__).resolve().parent.parent / "crates" / "station_vectors"
 SEED = 20261127
-FRESH, TABLE, STATE, MEMORY = 1, 2, 3, 4
+FRESH, TABLE, STATE, MEMORY, CEILING = 1, 2, 3, 4, 5
 EVENTS_OF_A_SEQUENCE = 100
 # A sequence over a large memory is shorter, so that no more than so many bytes of it are gone over.
 BYTES_OF_A_SEQUENCE = 1_000_000
@@ -98,6 +100,7 @@ class Station:
     def __init__(self):
         self.state = State()
         self.memory = bytearray()
+        self.lines_since = 0
         self.vectors = []
 
     def fresh(self, table, memory_length=None):
@@ -108,14 +111,14 @@ class Station:
 
     def hold_table(self, table):
         self.state.table = copy.deepcopy(table)
-        self.add(TABLE, held_table(table), "table")
+        self.add(TABLE, held_table(table), f"table {self.well()}")
 
     def hold_state(self, state):
         """Stores the stack and the waiting jobs of a state."""
         held = copy.deepcopy(state)
         held.table, self.state = self.state.table, held
         self.lend(len(self.memory))
-        self.add(STATE, held_jobs(state), "state")
+        self.add(STATE, held_jobs(state), f"state {self.well()}")
 
     def hold(self, state):
         """Stores a whole state, and lends a memory of its stack size."""
@@ -125,31 +128,36 @@ class Station:
 
     def lend(self, length):
         self.memory = bytearray((bytes(range(1, 252)) * (length // 251 + 1))[:length])
+        self.lines_since = 0
 
     def lend_memory(self, length):
         self.lend(length)
-        self.add(MEMORY, length.to_bytes(4, "big"), "memory")
+        self.add(MEMORY, length.to_bytes(4, "big"), "memory -")
+
+    def ask(self, resource):
+        (answer,) = model.readings(self.state, (model.ceiling, [resource]))
+        self.add(CEILING, bytes([resource]), f"ceiling {said(answer)}")
+
+    def well(self):
+        return "well" if model.is_well_formed(self.state) else "ill"
 
     def apply(self, event):
         field = tagged_model.write_event(event, 7)[1]
         answer, started = model.apply(self.state, self.memory, event)
         self.add(field[0], field[3:], f"{answer} {'-' if started is None else started}")
 
-    def add(self, kind, record, own_part):
+    def add(self, kind, record, first):
         """Adds a record and its line, then fills the frame."""
         state, memory = self.state, self.memory
-        resources = min(state.table.resource_count, RESOURCE_PLACES) + 1
-        running, system, number, word, *ceilings = model.readings(
-            state, (model.running, []), (model.system_ceiling, []), (model.number_waiting, []), (model.waiting_word, []),
-            *((model.ceiling, [resource]) for resource in range(resources)),
-        )  # fmt: skip
-        readers = [said(running), said(system), said(number), said(word, as_word=True)]
+        running, system, number, word = model.readings(
+            state, (model.running, []), (model.system_ceiling, []), (model.number_waiting, []), (model.waiting_word, [])
+        )
         start, end = model.running_frame(state, len(memory))
         all_bytes = digest(memory, digest_of_state(held_jobs(state), digest_of_state(held_table(state.table))))
-        well = "well" if model.is_well_formed(state) else "ill"
-        line = f"{own_part};{numbers(readers)};{numbers(map(said, ceilings))}; {well}; {all_bytes:08x} {end - start}"
-        memory[start:end] = bytes([1 + len(self.vectors) % 255]) * (end - start)
-        self.vectors.append((kind, record, line))
+        readers = f"{said(running)} {said(system)} {said(number)} {said(word, as_word=True)}"
+        memory[start:end] = bytes([1 + self.lines_since % 255]) * (end - start)
+        self.lines_since += 1
+        self.vectors.append((kind, record, f"{first} {readers} {end - start} {all_bytes:08x}"))
 
 
 # Events.
@@ -247,7 +255,7 @@ def maybe_refused(rng, state, number):
         model.NO_SUCH_RESOURCE: lambda: (rng.choice(moves), runs, unlisted, rng.choice([0, 1, 65535])),
         model.AMOUNT_ZERO: lambda: (rng.choice(moves), runs, resource, 0),
         model.ABOVE_NEED: lambda: ("acquire", runs, resource, rng.choice([need - held + 1, need - held + 1, need + 1, 65535])),
-        model.ABOVE_FREE: lambda: ("acquire", runs, resource, max(need - held, 0)),
+        model.ABOVE_FREE: lambda: ("acquire", runs, resource, rng.choice([max(need - held, 0), model.free_units(state, resource) + 1])),
         model.ABOVE_HELD: lambda: ("release", runs, resource, rng.choice([held + 1, held + 1, need + 1, 65535])),
         model.STILL_HOLDS: lambda: ("finish", runs),
         model.HOLDS_NOTHING: lambda: ("release_all", runs),
@@ -311,10 +319,18 @@ def random_table(rng):
     return sized(make_table(1, units, described), rng.choice([0, 0, 1, 17]))
 
 
+def ask_each(station):
+    """Asks for the ceiling of each resource, of the one after them, and of 255."""
+    for resource in [*range(min(station.state.table.resource_count, RESOURCE_PLACES) + 1), 255]:
+        station.ask(resource)
+
+
 def play(rng, station, temper, count):
-    """Applies events that are chosen for the states that they meet."""
+    """Applies events that are chosen for the states that they meet, and asks for a ceiling now and then."""
     for _ in range(min(count, max(20, BYTES_OF_A_SEQUENCE // max(1, len(station.memory))))):
         station.apply(next_event(rng, station.state, temper))
+        if rng.random() < 0.1:
+            station.ask(rng.randint(0, station.state.table.resource_count))
 
 
 def sequences(rng, station):
@@ -411,23 +427,42 @@ def random_state(rng):
             held = []
             for r in range(table.resource_count):
                 free = table.units[r] - sum(other[1][r] for other in started)
-                held.append(rng.choice([0, 1, 1]) * rng.randint(0, min(table.jobs[job].needs[r], free)))
+                most = min(table.jobs[job].needs[r], free)
+                held.append(rng.choice([0, most, rng.randint(0, most)]))
             started.append((job, held))
     on_stack = [job for job, _ in started]
     waiting = sorted((job for job in jobs if job not in on_stack), key=lambda job: -table.jobs[job].level)
     return make_state(table, started, waiting[: rng.choice([len(waiting), len(waiting), 1])])
 
 
+def lacks_units(state):
+    """Does the running job need more of a resource than is free, so that 18 may be answered?"""
+    running, resources = top(state), range(state.table.resource_count)
+    needs = state.table.jobs[running.job].needs if running else []
+    return running is not None and any(needs[r] - running.held[r] > model.free_units(state, r) for r in resources)
+
+
+def random_states(rng, count, wanted):
+    """So many well-formed states that are as wanted."""
+    states = []
+    while len(states) < count:
+        state = random_state(rng)
+        if wanted(state):
+            states.append(state)
+    return states
+
+
 def hand_made(rng, station):
-    """How many well-formed states were added. 18 is asked for first, and again where it is to be had."""
-    states = never_reached() + [random_state(rng) for _ in range(90)]
+    """How many well-formed states were added."""
+    states = never_reached() + random_states(rng, 60, lambda state: True) + random_states(rng, 40, lacks_units)
     for place, state in enumerate(states):
         assert model.is_well_formed(state)
         station.hold(state)
-        for number in [model.ABOVE_FREE] + REFUSALS:
-            event = refused_event(rng, station.state, number)
-            if event:
-                station.apply(event)
+        ask_each(station)
+        for number in REFUSALS:
+            for event in (refused_event(rng, station.state, model.ABOVE_FREE), refused_event(rng, station.state, number)):
+                if event:
+                    station.apply(event)
         play(rng, station, TEMPERS[place % len(TEMPERS)], 16)
     return len(states)
 
@@ -579,6 +614,7 @@ def broken(station):
         for event in events if place % 3 == 0 else [events[place % 6], events[(place + 1) % 6]]:
             station.apply(event)
         if place % 8 == 0:
+            ask_each(station)
             station.lend_memory(state.table.size + 1)
             station.apply(events[place % 5])
             station.apply(events[5])
@@ -622,14 +658,15 @@ def wrong_memories(rng, station):
 
 
 def print_counts(vectors):
-    answers = Counter(line.split(";")[0].split()[0] for kind, _, line in vectors if kind > MEMORY)
-    starts = sum(line.split(";")[0].split()[1] != "-" for kind, _, line in vectors if kind > MEMORY)
+    events = [line.split()[:2] for kind, _, line in vectors if kind > CEILING]
+    answers = Counter(int(answer) for answer, _ in events)
     kinds = Counter(kind for kind, _, _ in vectors)
-    fresh = Counter(line.split(";")[0] for kind, _, line in vectors if kind == FRESH)
-    print(f"events: {sum(answers.values())}; starts: {starts}")
-    print("answers: " + ", ".join(f"{answer}: {count}" for answer, count in sorted(answers.items(), key=lambda pair: int(pair[0]))))
+    fresh = Counter(line.split()[1] for kind, _, line in vectors if kind == FRESH)
+    print(f"events: {len(events)}; starts: {sum(started != '-' for _, started in events)}")
+    print("answers: " + ", ".join(f"{answer}: {count}" for answer, count in sorted(answers.items())))
     print("fresh states: " + ", ".join(f"{answer}: {count}" for answer, count in sorted(fresh.items())))
-    print(f"tables by hand: {kinds[TABLE]}; states by hand: {kinds[STATE]}; memories: {kinds[MEMORY]}; vectors: {len(vectors)}")
+    print(f"tables by hand: {kinds[TABLE]}; states by hand: {kinds[STATE]}; memories: {kinds[MEMORY]}; ceilings: {kinds[CEILING]}")
+    print(f"vectors: {len(vectors)}")
 
 
 def check_model_by_the_paper():
@@ -643,8 +680,7 @@ def check_model_by_the_paper():
     station.fresh(STATION)
     for event, row in zip(STATION_LOG, rows, strict=True):
         station.apply(event)
-        own, readers = station.vectors[-1][2].split(";")[:2]
-        assert own + readers == row
+        assert station.vectors[-1][2].startswith(row + " ")
     assert [model.ceiling_with(STATION, 0, free) for free in (4, 3, 2, 1, 0)] == [0, 10, 20, 20, 30]
     assert model.fresh_state(make_table(89, [4], [(10, 40, [4]), (20, 30, [3]), (30, 20, [1])]))[0] == 5
 
@@ -653,7 +689,7 @@ def main():
     check_model_by_the_paper()
     station, rng = Station(), random.Random(SEED)
     count = sequences(rng, station)
-    from_fresh = len(station.vectors) - count
+    from_fresh = sum(kind > CEILING for kind, _, _ in station.vectors)
     well = hand_made(rng, station)
     ill = broken(station)
     refused_tables(station)
