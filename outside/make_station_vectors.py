@@ -226,6 +226,8 @@ TEMPERS = [
     # Jobs come and go.
     {"deep": 0.3, "arrive": 4, "acquire": 3, "release": 1, "release_all": 2, "finish": 5},
     {"deep": 0.6, "arrive": 3, "acquire": 3, "release": 3, "release_all": 1, "finish": 2},
+    # Jobs start as long as there are any.
+    {"deep": 1, "arrive": 30, "acquire": 1, "release": 2, "release_all": 1, "finish": 0.4},
 ]
 
 
