@@ -46,7 +46,7 @@ sys.dont_write_bytecode = True
 import station_model as model
 import tagged_model
 from station_model import Started, State, started_jobs, top, waiting_jobs
-from tagged_model import JOB_PLACES, RESOURCE_PLACES, Job, Refused, Table, make_table, two
+from tagged_model import JOB_PLACES, RESOURCE_PLACES, Job, Table, make_table, two
 from vectors import STATION, full_table, held_table, limit_tables, rewrite_or_check, sized
 
 FOLDER = Path(__file__).resolve().parent.parent / "crates" / "station_vectors"
@@ -659,7 +659,10 @@ def wrong_memories(rng, station):
 # All of them.
 
 
-def print_counts(vectors):
+def print_counts(vectors, sequences, events_of_them, well_formed, broken_by_part):
+    print(f"sequences from a fresh state: {sequences}, of {events_of_them} events")
+    print(f"states by hand: {well_formed} well-formed, {sum(broken_by_part.values())} broken")
+    print("broken by part: " + ", ".join(f"{name} {count}" for name, count in broken_by_part.items()))
     events = [line.split()[:2] for kind, _, line in vectors if kind > CEILING]
     answers = Counter(int(answer) for answer, _ in events)
     kinds = Counter(kind for kind, _, _ in vectors)
@@ -691,15 +694,12 @@ def main():
     check_model_by_the_paper()
     station, rng = Station(), random.Random(SEED)
     count = sequences(rng, station)
-    from_fresh = sum(kind > CEILING for kind, _, _ in station.vectors)
-    well = hand_made(rng, station)
-    ill = broken(station)
+    events = sum(kind > CEILING for kind, _, _ in station.vectors)
+    well_formed = hand_made(rng, station)
+    broken_by_part = broken(station)
     refused_tables(station)
     wrong_memories(rng, station)
-    status = rewrite_or_check(FOLDER, station.vectors, print_counts)
-    print(f"sequences from a fresh state: {count}, of {from_fresh} events; well-formed states by hand: {well}; broken: {sum(ill.values())}")
-    print("broken by part: " + ", ".join(f"{name} {n}" for name, n in ill.items()))
-    return status
+    return rewrite_or_check(FOLDER, station.vectors, lambda vectors: print_counts(vectors, count, events, well_formed, broken_by_part))
 
 
 if __name__ == "__main__":

@@ -39,7 +39,7 @@ sys.dont_write_bytecode = True
 
 import tagged_model as model
 from tagged_model import make_field, make_table, two
-from vectors import STATION, full_table, held_table, limit_tables, numbers, rewrite_or_check, sized
+from vectors import STATION, full_table, held_table, limit_tables, rewrite_or_check, sized
 
 FOLDER = Path(__file__).resolve().parent.parent / "crates" / "tagged_vectors"
 SEED = 20261126
@@ -53,6 +53,10 @@ STATION_BYTES = bytes.fromhex(
 
 
 # The vectors: lists of (kind, bytes of the record, expected line).
+
+
+def numbers(values):
+    return "".join(f" {value}" for value in values)
 
 
 def table_text(table):

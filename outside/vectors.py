@@ -48,7 +48,7 @@ def limit_tables():
     return tables
 
 
-# Records and lines.
+# Records.
 
 
 def held_table(table):
@@ -58,10 +58,6 @@ def held_table(table):
     for job in table.jobs:
         data += bytes([job.level]) + two(job.frame) + b"".join(two(need) for need in job.needs)
     return data
-
-
-def numbers(values):
-    return "".join(f" {value}" for value in values)
 
 
 # The files.
