@@ -455,7 +455,7 @@ def random_states(rng, count, wanted):
 
 
 def hand_made(rng, station):
-    """How many well-formed states were added."""
+    """How many well-formed states were added. Each is met first by events that are refused, and so is asked for 18 many times."""
     states = never_reached() + random_states(rng, 60, lambda state: True) + random_states(rng, 40, lacks_units)
     for place, state in enumerate(states):
         assert model.is_well_formed(state)
@@ -465,6 +465,9 @@ def hand_made(rng, station):
             for event in (refused_event(rng, station.state, model.ABOVE_FREE), refused_event(rng, station.state, number)):
                 if event:
                     station.apply(event)
+        # An acquire makes no start test, even where the head is due to start.
+        for name, job, resource, _ in list(acquires(rng, station.state)):
+            station.apply((name, job, resource, 1))
         play(rng, station, TEMPERS[place % len(TEMPERS)], 16)
     return len(states)
 
