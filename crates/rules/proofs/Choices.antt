@@ -1,29 +1,16 @@
 -- Laws of choices: a property of a choice by its two cases, and what is known where the first bad test has a certain number.
-use Rattle.std.specs.Prelude.{◌≡◌, refl, ◌⊎◌, Bool, true, false, ◌&&◌, ◌||◌, List, [], ◌∷◌, ℕ, T, eqb}
+use Rattle.std.specs.Prelude.{◌≡◌, refl, ◌⊎◌, Bool, true, false, List, [], ◌∷◌, ℕ, T, eqb}
 use Rattle.std.proofs.Common.{sym, subst, inl, inr, eq-eqb, ⊎_elim}
-use Rattle.std.proofs.lemmas.Bool.{eqb-false, cases_Bool, and_from, and_parts, or_cases, or_parts}
+use Rattle.std.proofs.lemmas.Bool.{eqb-false, cases_Bool}
 use Rattle.rules.specs.Choice.{pick, Check, first_bad}
 
 pub pick_case : {A : Type 0} (P : A → Type 0) (b : Bool) (x y : A) → (b ≡ true → P x) → (b ≡ false → P y) → P (pick b x y)
 pick_case P true x y h k = h refl
 pick_case P false x y h k = k refl
 
--- ---- by a test; both, either, neither: the library's lemmas, under the names that they were first proved by here
-
+-- by a test
 pub by_test : {P : Type 0} (b : Bool) → (b ≡ true → P) → (b ≡ false → P) → P
 by_test b h k = ⊎_elim h k (cases_Bool b)
-
-pub both : (x y : Bool) → x ≡ true → y ≡ true → (x && y) ≡ true
-both = and_from
-
-pub both_parts : (x y : Bool) → (x && y) ≡ true → (x ≡ true) × (y ≡ true)
-both_parts = and_parts
-
-pub either_part : (x y : Bool) → (x || y) ≡ true → (x ≡ true) ⊎ (y ≡ true)
-either_part = or_cases
-
-pub neither_parts : (x y : Bool) → (x || y) ≡ false → (x ≡ false) × (y ≡ false)
-neither_parts = or_parts
 
 -- ---- refusals
 

@@ -22,6 +22,11 @@ pub refused_memory : (t : Table) (s : State) (e : Event) (m : List ℕ) → refu
 unfolding memory_after starts_after
 refused_memory t s e m h = rw (ne_eqb (refusal t s e) 0 h)
 
+-- Nor does it start a job.
+pub refused_starts_none : (t : Table) (s : State) (e : Event) → refusal t s e ≢ 0 → started_by t s e ≡ none
+unfolding started_by starts_after
+refused_starts_none t s e h = rw (ne_eqb (refusal t s e) 0 h)
+
 -- No start test is made after an acquire.
 pub acquire_starts_none : (t : Table) (s : State) (j r n : ℕ) → started_by t s (acquire j r n) ≡ none
 unfolding started_by starts_after

@@ -1,9 +1,8 @@
 -- Every event keeps a state well formed, a hand-made one too; so every moment is well formed.
-use Rattle.std.specs.Prelude.{◌≡◌, refl, Bool, true, false, not, List, [], ◌∷◌, ◌++◌, ℕ, zero, suc, ◌≤◌, ◌<◌, get_or, replicate, ltb, leb}
+use Rattle.std.specs.Prelude.{◌≡◌, refl, Bool, true, false, not, List, [], ◌∷◌, ◌++◌, ℕ, zero, suc, ◌≤◌, ◌<◌, ltb, leb}
 use Rattle.std.proofs.Common.{sym, ap, ◌∙◌, append_assoc, arith, lt-ltb, le-leb}
-use Rattle.std.proofs.lemmas.Bool.{cases_lt, and_parts, and_from}
+use Rattle.std.proofs.lemmas.Bool.{and_parts, and_from}
 use Rattle.std.proofs.lemmas.Bool.Decides.{nat_tests}
-use Rattle.std.proofs.lemmas.List.{get_or_past, places}
 use Rattle.rules.specs.Counting.{every, each_once}
 use Rattle.rules.specs.Table.{Table, job_count, resource_count, job_of, units_of, table_refusal}
 use Rattle.rules.specs.State.{Entry, Started, State, fresh, put, started_jobs, waiting_jobs, held_in}
@@ -14,7 +13,7 @@ use Rattle.rules.specs.Events.{Event, Effect, enter, hold, leave, effect, applie
 use Rattle.rules.specs.Run.{moment}
 use Rattle.rules.specs.WellFormed.{levels_rise, next_behind, in_order, within_units, well_formed}
 use Rattle.rules.proofs.Choices.{pick_case}
-use Rattle.rules.proofs.Counts.{every_below_make, every_move, none_above_zeros, once_move}
+use Rattle.rules.proofs.Counts.{every_below_make, every_move, none_above_zeros, once_move, zeros_at}
 use Rattle.rules.proofs.Tables.{Good, good_table}
 use Rattle.rules.proofs.Order.{Live, sooner_asym, starts_is}
 use Rattle.rules.proofs.Well.{Well, well_parts, well_formed_lem, All, live_all, held_units}
@@ -134,9 +133,6 @@ well_applied t s (f ∷ fs) ks b leave h w = well_leave t s f fs ks w
 
 -- ---- the start test
 
-pub held_zeros : (n r : ℕ) → get_or {A = ℕ} (replicate n 0) r 0 ≡ 0
-held_zeros n r = grind (arith, cases_lt r n, places, get_or_past)
-
 pub well_push : (t : Table) (s : State) (fs : List Started) (k : Entry) (ks : List Entry) → starts t fs (k ∷ ks) ≡ true
     → Well t (put s fs (k ∷ ks)) → Well t (put s (newly_started t k ∷ fs) ks)
 unfolding every each_once levels_rise in_order held_in system_ceiling
@@ -152,7 +148,7 @@ well_push t s fs k ks e w =
       needs = and_from _ _ (none_above_zeros (job_of t k.who).needs (resource_count t) (g.full k.who l)) w.needs;
       units =
           units_within t (newly_started t k ∷ fs)
-          (λ r m. let u = held_units t (put s fs (k ∷ ks)) w r m in omega (arith, u, held_zeros (resource_count t) r));
+          (λ r m. let u = held_units t (put s fs (k ∷ ks)) w r m in omega (arith, u, zeros_at (resource_count t) r));
     }
 
 pub well_start : (t : Table) (s : State) (fs : List Started) (ks : List Entry) → Well t (put s fs ks) → Well t (start_test t (put s fs ks))

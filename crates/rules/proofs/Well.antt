@@ -1,13 +1,13 @@
 -- A well-formed state taken apart and put together, and what follows of its entries.
-use Rattle.std.specs.Prelude.{◌≡◌, Bool, true, List, [], ◌∷◌, ◌++◌, ℕ, ◌≤◌, ◌<◌, ltb, leb}
-use Rattle.std.proofs.Common.{arith, ltb-true, leb-true, eq-eqb}
+use Rattle.std.specs.Prelude.{◌≡◌, Bool, true, List, [], ◌∷◌, ℕ, ◌≤◌, ◌<◌, ltb, leb}
+use Rattle.std.proofs.Common.{sym, ◌∙◌, arith, ltb-true, leb-true, eq-eqb}
 use Rattle.std.proofs.lemmas.Bool.{and_parts}
 use Rattle.std.proofs.lemmas.Bool.Decides.{nat_tests}
 use Rattle.rules.specs.Counting.{every}
 use Rattle.rules.specs.Table.{Table, table_refusal, job_count, resource_count, units_of}
 use Rattle.rules.specs.State.{Entry, Started, State, started_jobs, waiting_jobs, held_in}
-use Rattle.rules.specs.WellFormed.{all_listed, none_twice, levels_rise, in_order, within_needs, within_units, well_formed}
-use Rattle.rules.proofs.Counts.{every_below_at}
+use Rattle.rules.specs.WellFormed.{all_listed, none_twice, levels_rise, in_order, within_needs, within_units, writable, well_kept, well_formed}
+use Rattle.rules.proofs.Counts.{every-append, every_below_at}
 use Rattle.rules.proofs.Order.{Live}
 
 -- the seven parts
@@ -27,6 +27,11 @@ well_parts t s h = grind (arith, nat_tests)
 pub well_formed_lem : (t : Table) (s : State) → Well t s → well_formed t s ≡ true
 unfolding well_formed
 well_formed_lem t s w = rw (eq-eqb (table_refusal t) 0 w.table, w.listed, w.once, w.rising, w.order, w.needs, w.units)
+
+-- its own part, whatever its table
+pub well_kept_lem : (t : Table) (s : State) → Well t s → well_kept t s ≡ true
+unfolding well_formed
+well_kept_lem t s w = (and_parts (writable t) (well_kept t s) (well_formed_lem t s w)).1
 
 -- ---- what holds of each element of a list, and of every active entry
 
@@ -48,20 +53,18 @@ Everyone P s = All (λ f. P f.entry) s.stack × All P s.waiting
 -- every active entry is live
 pub live_all : (t : Table) (s : State) → Well t s → Everyone (Live t s) s
 unfolding every
-live_all t s w = (up s.stack w.listed, along s.waiting (rest s.stack w.listed))
+live_all t s w =
+    let p = and_parts _ _ (sym (every-append is (started_jobs s.stack) (waiting_jobs s.waiting)) ∙ w.listed) in
+    (up s.stack p.0, along s.waiting p.1)
   where
     is : ℕ → Bool
     is j = ltb j (job_count t)
 
-    up : (fs : List Started) → every is (started_jobs fs ++ waiting_jobs s.waiting) ≡ true → All (λ f. Live t s f.entry) fs
+    up : (fs : List Started) → every is (started_jobs fs) ≡ true → All (λ f. Live t s f.entry) fs
     up [] h = tt
     up (f ∷ fs) h =
         let p = and_parts _ _ h in
         (record { listed = ltb-true _ _ p.0 }, up fs p.1)
-
-    rest : (fs : List Started) → every is (started_jobs fs ++ waiting_jobs s.waiting) ≡ true → every is (waiting_jobs s.waiting) ≡ true
-    rest [] h = h
-    rest (f ∷ fs) h = rest fs (and_parts _ _ h).1
 
     along : (ks : List Entry) → every is (waiting_jobs ks) ≡ true → All (Live t s) ks
     along [] h = tt

@@ -5,12 +5,12 @@ use Rattle.std.specs.List.{list_any}
 use Rattle.std.proofs.Common.{ap, ap₂, sym, ◌∙◌}
 use Rattle.rules.specs.Counting.{contains}
 use Rattle.rules.specs.State.{started_jobs, waiting_jobs, active_jobs}
-use Rattle.rules.proofs.Counts.{contains-append}
+use Rattle.rules.proofs.Counts.{contains-append, contains_reverse}
 use Rattle.table.specs.declared.JobNo.{JobNo}
 use Rattle.station.specs.declared.Started.{Started}
 use Rattle.station.specs.declared.State.{State}
 use Rattle.station.specs.Arrays.{state_of}
-use Rattle.station.proofs.View.{contains_reverse, jobs_up, jobs_waiting}
+use Rattle.station.proofs.View.{jobs_up, jobs_waiting}
 
 -- A number among those that a list's elements have.
 contains_any : {A : Type 0} (number : A → ℕ) (j : ℕ) (xs : List A) → contains j (map number xs) ≡ list_any (λ x. eqb (number x) j) xs
@@ -26,7 +26,8 @@ any_started j xs = list_any (λ (f : Started). eqb f.job.0 j) xs
 abbrev pub any_waiting : ℕ → List JobNo → Bool
 any_waiting j ks = list_any (λ (k : JobNo). eqb k.0 j) ks
 
-pub active_is : (s : State) (j : ℕ)
+-- Who is active is at a place of the stack, or waits.
+active_is : (s : State) (j : ℕ)
     → (any_started j (take s.depth s.stack) || any_waiting j (take s.waiting_count s.waiting)) ≡ contains j (active_jobs (state_of s))
 active_is s j =
     let m = s.table.resource_count in

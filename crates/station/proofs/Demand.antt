@@ -1,9 +1,9 @@
 -- Demand 3 of the code's own states: for a table that could be written, and any sequence of events applied from its fresh state. The states
 -- are the arrays that hold the rules' moments (Moments), of which the rules prove the three statements.
-use Rattle.std.specs.Prelude.{◌≡◌, ◌≢◌, refl, true, false, List, [], ◌∷◌, ℕ, zero, suc, ◌+◌, ◌≤◌, ◌<◌, length, eqb, Result, Ok, Err, Option}
+use Rattle.std.specs.Prelude.{◌≡◌, ◌≢◌, refl, true, false, [], ℕ, zero, suc, ◌+◌, ◌≤◌, ◌<◌, length, eqb, Result, Ok, Err, Option}
 use Rattle.std.specs.Result.{is_ok}
 use Rattle.std.proofs.Common.{ap, ap₂, sym, subst, ◌∙◌, arith}
-use Rattle.std.proofs.lemmas.Bool.Decides.{nat_tests}
+use Rattle.std.proofs.lemmas.List.{nil_from_length}
 use Rattle.std.proofs.Math.Option as maybe
 use Rattle.rules.specs.Choice.{pick}
 use Rattle.rules.specs.Demand3 as R
@@ -23,7 +23,7 @@ use Rattle.table.proofs.Numbers.{number_not_zero}
 use Rattle.table.proofs.Fit.{fit_written}
 use Rattle.tagged_event.specs.Answers.{event_of}
 use Rattle.station.specs.declared.State.{State}
-use Rattle.station.specs.Arrays.{state_of, arrays_of, state_of_zeros, fresh_state, Roomy}
+use Rattle.station.specs.Arrays.{state_of, state_of_zeros, fresh_state, Roomy}
 use Rattle.station.specs.Reading.{job_said}
 use Rattle.station.specs.Applying.{refusal, answer}
 use Rattle.station.specs.Sequence.{Sequence, activation}
@@ -36,14 +36,10 @@ number_18 : (r : Result (Option JobNo) Refusal) (n : ℕ) (j : maybe.Option ℕ)
 number_18 r zero j e h = grind (arith, ap job_said h)
 number_18 r (suc n) j e h = grind (arith, ap job_said h)
 
-nothing : {A : Type 0} (xs : List A) → length xs ≡ 0 → xs ≡ []
-nothing [] e = refl
-nothing (x ∷ xs) e = grind (arith, e)
-
 module _ (t : Table) (r : Roomy t) (g : table_judged t ≡ 0) (q : Sequence (fresh_state t)) where
   -- What the rules prove of these events.
   proved : R.Demand3 (table_of t) (events_in t q)
-  proved = Proved.demand_3 (table_of t) (fit_written t g r.units r.jobs) (events_in t q)
+  proved = Proved.demand_3 (table_of t) (fit_written t g r.jobs) (events_in t q)
 
   -- (a)
   never_18 : (m : ℕ) → refusal (q.states m) (length (q.memories m)) (event_of (q.events m)) ≢ 18
@@ -55,6 +51,7 @@ module _ (t : Table) (r : Roomy t) (g : table_judged t ≡ 0) (q : Sequence (fre
       ∙ (sym (refused_event (q.states m) _ _ (well_is t r g q m) l) ∙ h)))
       (λ l. omega (arith, refused_memory (q.states m) (length (q.memories m)) (event_of (q.events m)) (well_is t r g q m) l, h))
 
+  -- Event m is answered by its refusal's number, or names the job that the rules start.
   answered_by : (m : ℕ) → job_said (q.answers m) ≡ when_fit (refusal (q.states m) (length (q.memories m)) (event_of (q.events m)))
       (Events.started_by (table_of (q.states m).table) (state_of (q.states m)) (event_of (q.events m)))
   unfolding answer
@@ -89,7 +86,7 @@ module _ (t : Table) (r : Roomy t) (g : table_judged t ≡ 0) (q : Sequence (fre
   never_idle : (m : ℕ) → (q.states m).depth ≡ 0 → (q.states m).waiting_count ≡ 0
   never_idle m d =
       let s = state_is t r g q m in
-      let e : (moment (table_of t) (events_in t q) m).stack ≡ [] = nothing _ (sym (ap (λ (x : State). x.depth) s) ∙ d) in
+      let e : (moment (table_of t) (events_in t q) m).stack ≡ [] = nil_from_length _ (sym (ap (λ (x : State). x.depth) s) ∙ d) in
       ap (λ (x : State). x.waiting_count) s ∙ ap length (proved.never_idle m e)
 
 -- Demand 3, of every table that could be written and every sequence of events applied from its fresh state.

@@ -1,33 +1,34 @@
 -- The tests of a well-formed state, as walks over its arrays make them. Each walk's test is the rules' test of the list that the arrays hold:
 -- a test of all does not depend on the order, and in a test of neighbours each place is tested against the one before it.
-use Rattle.std.specs.Prelude.{◌≡◌, refl, Bool, true, false, not, ◌&&◌, List, [], ◌∷◌, ◌++◌, map, reverse, ℕ, zero, suc, ◌+◌, ◌≤◌, ◌<◌, length, get_or, take, drop, ltb, leb}
+use Rattle.std.specs.Prelude.{◌≡◌, refl, Bool, true, false, not, ◌&&◌, List, [], ◌∷◌, ◌++◌, map, reverse, ℕ, suc, ◌+◌, ◌≤◌, ◌<◌, length, get_or, take, drop, ltb, leb}
 use Rattle.std.specs.List.{list_all, zip}
-use Rattle.std.proofs.Common.{ap, ap₂, sym, ◌∙◌, arith, append_assoc, eq-eqb, eqb-true, ltb-true, le-leb, drop_of_length-le}
-use Rattle.std.proofs.lemmas.Bool.{and_parts, not-false}
+use Rattle.std.proofs.Common.{ap, ap₂, sym, ◌∙◌, arith, append_assoc, eq-eqb, ltb-true, le-leb}
+use Rattle.std.proofs.lemmas.Bool.{and_parts}
 use Rattle.std.proofs.lemmas.Bool.Decides.{nat_tests}
 use Rattle.std.proofs.Math.Bool.{and-true}
-use Rattle.std.proofs.lemmas.List.{append-nil, length-map, length-take, drop_more, get_or-map, get_or-take}
+use Rattle.std.proofs.lemmas.List.{append-nil, at_drop_all, length-map, length-take, drop_more, get_or-map, get_or-take}
 use Rattle.rules.specs.Limits.{max_jobs, max_resources, max_level}
 use Rattle.rules.specs.Counting.{every, every_below, none_above}
 use Rattle.rules.specs.Table as Rules
-use Rattle.rules.specs.Table.{job_count, resource_count, no_job, job_of, level_of, stack_good, table_checks}
+use Rattle.rules.specs.Table.{job_count, resource_count, no_job, job_of, level_of}
 use Rattle.rules.specs.State as R
 use Rattle.rules.specs.State.{level_at, running_level, started_jobs, waiting_jobs, held_in}
 use Rattle.rules.specs.Waiting.{sooner}
 use Rattle.rules.specs.WellFormed.{all_listed, levels_rise, in_order, within_needs, within_units}
-use Rattle.rules.proofs.Choices.{stopped}
-use Rattle.rules.proofs.Counts.{every_at}
+use Rattle.rules.proofs.Counts.{every_below_first, every_at, every-append, every-map, reverse-first, every_reverse}
 use Rattle.table.specs.declared.Job.{Job}
 use Rattle.table.specs.declared.JobNo.{JobNo}
 use Rattle.table.specs.declared.Table.{Table}
 use Rattle.table.specs.Arrays.{job_in, table_of}
-use Rattle.table.specs.Judging.{is_zero, counts_fit, values_fit, table_judged}
+use Rattle.table.specs.Judging.{is_zero}
+use Rattle.table.proofs.Fit.{few_jobs_listed}
 use Rattle.table.proofs.Tests.{by_all}
 use Rattle.station.specs.declared.Started.{Started}
 use Rattle.station.specs.declared.State.{State}
 use Rattle.station.specs.Arrays.{entry_of, started_in, state_of}
 use Rattle.station.specs.WellFormed.{table_fits, held_blank, waiting_blank}
-use Rattle.station.proofs.View.{reverse-first, every-append, every-map, every_reverse, jobs_up, jobs_waiting}
+use Rattle.station.proofs.View.{jobs_up, jobs_waiting}
+use Rattle.station.proofs.Parts.{tested_fit}
 
 -- ---- entries past a count
 
@@ -68,29 +69,6 @@ pub listed_parts : (s : State)
     → all_listed (table_of s.table) (state_of s) ≡ (every (is_listed s) (started_jobs (state_of s).stack) && every (is_listed s) (waiting_jobs (state_of s).waiting))
 listed_parts s = every-append (is_listed s) (started_jobs (state_of s).stack) (waiting_jobs (state_of s).waiting)
 
--- No more jobs and resources are counted than there is room for ..
-counted : (s : State) → table_fits s ≡ true → counts_fit s.table ≡ true
-unfolding table_judged
-counted s h =
-    let t = s.table in
-    not-false (counts_fit t) (stopped 0 (table_checks (counts_fit t) (values_fit t) (stack_good (table_of t))) (eqb-true (table_judged t) 0 h)).0
-
--- .. so no more jobs are listed ..
-pub few_jobs : (s : State) → table_fits s ≡ true → job_count (table_of s.table) ≤ max_jobs
-few_jobs s h =
-    let t = s.table in
-    let fit : counts_fit t ≡ true = counted s h in
-    let few : t.job_count ≤ max_jobs = grind (arith, nat_tests) in
-    rw (length-map (take t.job_count t.jobs) (job_in t.resource_count), length-take t.job_count t.jobs) (grind arith)
-
--- .. and no more resources.
-pub few_resources : (s : State) → table_fits s ≡ true → resource_count (table_of s.table) ≤ max_resources
-few_resources s h =
-    let t = s.table in
-    let fit : counts_fit t ≡ true = counted s h in
-    let few : t.resource_count ≤ max_resources = grind (arith, nat_tests) in
-    rw (length-take t.resource_count t.units) (grind arith)
-
 module _ (s : State) (h : all_listed (table_of s.table) (state_of s) ≡ true) where
   -- Both parts.
   listed : (every (is_listed s) (started_jobs (state_of s).stack) ≡ true) × (every (is_listed s) (waiting_jobs (state_of s).waiting) ≡ true)
@@ -115,11 +93,11 @@ module _ (s : State) (h : all_listed (table_of s.table) (state_of s) ≡ true) w
 module _ (s : State) (fits : table_fits s ≡ true) (h : all_listed (table_of s.table) (state_of s) ≡ true) where
   -- So a started job has a place among all jobs ..
   pub few_started : (xs : List Started) → xs ≡ take s.depth s.stack → (i : ℕ) (d : Started) → i < length xs → (get_or xs i d).job.0 < max_jobs
-  few_started xs e i d l = omega (arith, listed_started s h xs e i d l, few_jobs s fits)
+  few_started xs e i d l = omega (arith, listed_started s h xs e i d l, few_jobs_listed s.table (tested_fit s fits))
 
   -- .. and so has a waiting one.
   pub few_waiting : (xs : List JobNo) → xs ≡ take s.waiting_count s.waiting → (i : ℕ) (d : JobNo) → i < length xs → (get_or xs i d).0 < max_jobs
-  few_waiting xs e i d l = omega (arith, listed_waiting s h xs e i d l, few_jobs s fits)
+  few_waiting xs e i d l = omega (arith, listed_waiting s h xs e i d l, few_jobs_listed s.table (tested_fit s fits))
 
 -- ---- levels rise up the stack
 
@@ -209,24 +187,20 @@ module _ (t : Table) (xs : List Started) (i : ℕ) (d : Started) (e : Job) (r : 
       let passes : r ≡ in_need t f = test ∙ ap (λ ns. none_above ns (take t.resource_count f.held)) (sym (needs_listed t f.job.0 e k)) in
       ap (λ b. b && every (in_need t) (drop (i + 1) xs)) passes ∙ ap (every (in_need t)) (sym (drop_more xs i d l)) ∙ h
 
+  -- If it passes, the places left decide ..
   pub in_need_more : r ≡ true → every (in_need t) (drop (i + 1) xs) ≡ whole
   in_need_more p = ap (λ b. b && every (in_need t) (drop (i + 1) xs)) (sym p) ∙ here
 
+  -- .. and if not, it does.
   pub in_need_ends : r ≡ false → false ≡ whole
   in_need_ends p = ap (λ b. b && every (in_need t) (drop (i + 1) xs)) (sym p) ∙ here
 
 -- With no place left, all have passed.
 pub none_left : {A : Type 0} (p : A → Bool) (xs : List A) (i : ℕ) (whole : Bool) → length xs ≤ i → every p (drop i xs) ≡ whole → true ≡ whole
 unfolding every
-none_left p xs i whole l h = ap (every p) (sym (drop_of_length-le xs l)) ∙ h
+none_left p xs i whole l h = sym (at_drop_all (every p) xs i l) ∙ h
 
 -- ---- no more units are held than there are
-
--- A test of every number, the first one first.
-every_below-first : (n : ℕ) (p : ℕ → Bool) → every_below (suc n) p ≡ (p 0 && every_below n (λ r. p (suc r)))
-unfolding every_below
-every_below-first zero p = grind arith
-every_below-first (suc n) p = grind (arith, every_below-first n p)
 
 -- As many as there are resources, each with what is held of it.
 zip_below : (us held : List ℕ) (f : ℕ → ℕ) → length us ≤ length held → ((r : ℕ) → r < length us → get_or held r 0 ≡ f r)
@@ -237,7 +211,7 @@ zip_below [] (x ∷ held) f l h = refl
 zip_below (u ∷ us) [] f l h = absurd (let no : ⊥ = omega arith in no)
 zip_below (u ∷ us) (x ∷ held) f l h =
     ap₂ ◌&&◌ (ap (λ k. leb k u) (h 0 (omega arith))) (zip_below us held (λ r. f (suc r)) (omega arith) (λ r b. h (suc r) (omega arith)))
-    ∙ sym (every_below-first (length us) (λ r. leb (f r) (get_or (u ∷ us) r 0)))
+    ∙ sym (every_below_first (length us) (λ r. leb (f r) (get_or (u ∷ us) r 0)))
 
 -- A chain over the resources.
 pub by_units : (t : Rules.Table) (fs : List R.Started) (held : List ℕ) (r : Bool) → resource_count t ≤ length held

@@ -1,7 +1,7 @@
 -- 18 is met in a state made by hand: it is well formed, and yet its running job, which asks within its need, is told that too few units are free.
 -- By demand 3 no sequence of events from a fresh state comes there.
-use Rattle.std.specs.Prelude.{◌≡◌, refl, true, ℕ}
-use Rattle.std.proofs.Common.{ap, ap₂, ◌∙◌}
+use Rattle.std.specs.Prelude.{◌≡◌, refl, true}
+use Rattle.std.proofs.Common.{ap, ◌∙◌}
 use Rattle.rules.specs.Choice.{first_bad}
 use Rattle.rules.specs.Counting.{max_below, sum_below, every, none_above}
 use Rattle.rules.specs.Table.{worst}
@@ -17,7 +17,7 @@ use Rattle.station.specs.declared.State.{State}
 use Rattle.station.specs.Arrays.{arrays_of}
 use Rattle.station.specs.WellFormed.{well_formed}
 use Rattle.station.specs.Applying.{refusal}
-use Rattle.station.proofs.Back.{well_back, arrays_well}
+use Rattle.station.proofs.Well.{well_back, arrays_well}
 use Rattle.station.proofs.Refused.{refused_event}
 
 -- The rules' table in arrays.

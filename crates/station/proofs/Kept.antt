@@ -1,17 +1,15 @@
 -- How a well-formed state stays well formed: what an accepted event leaves is the arrays that hold the rules' state after it, which is well
 -- formed by the rules; a refused event leaves the state as it was.
 use Rattle.std.specs.Prelude.{◌≡◌, refl, true, false, List, ◌∷◌, ℕ, ◌<◌, length, leb, eqb}
-use Rattle.std.proofs.Common.{ap, ap₂, sym, ◌∙◌, arith, eqb-true}
-use Rattle.rules.specs.Limits.{max_jobs, max_resources}
-use Rattle.rules.specs.Choice.{pick, Check, refuse, first_bad}
+use Rattle.std.proofs.Common.{ap, sym, ◌∙◌, arith}
+use Rattle.std.proofs.lemmas.Bool.Decides.{nat_tests}
+use Rattle.rules.specs.Limits.{max_resources}
+use Rattle.rules.specs.Choice.{Check, refuse, first_bad}
 use Rattle.rules.specs.Events as R
 use Rattle.rules.specs.State as Rules
 use Rattle.rules.specs.Table as T
 use Rattle.rules.specs.Table.{job_count}
-use Rattle.std.proofs.lemmas.Bool.Decides.{nat_tests}
-use Rattle.rules.proofs.Choices.{by_test}
 use Rattle.rules.proofs.Kept.{well_change, well_after}
-use Rattle.rules.proofs.Facts as Facts
 use Rattle.rules.proofs.Well.{Well}
 use Rattle.table.specs.Arrays.{table_of}
 use Rattle.table.specs.Judging.{table_judged}
@@ -20,20 +18,20 @@ use Rattle.station.specs.declared.State.{State}
 use Rattle.station.specs.Arrays.{state_of, arrays_of}
 use Rattle.station.specs.WellFormed.{well_formed}
 use Rattle.station.specs.Applying.{changed}
-use Rattle.station.proofs.Back.{formed, state_back, well_back, arrays_well, well_listed}
+use Rattle.station.proofs.Parts.{formed}
+use Rattle.station.proofs.Well.{well_listed, well_back, arrays_well}
 
--- The arrays that hold a state which is well formed by the rules: they are well formed, and hold that state.
+-- Arrays that are well formed, with this table, and hold this state of the rules.
 pub record Holds (t : Table) (st : Rules.State) (s : State) : Type 0 where
-  pub arrays : s ≡ arrays_of t st
   pub formed : well_formed s ≡ true
   pub view : state_of s ≡ st
   pub table : s.table ≡ t
 
-pub holds : (t : Table) (st : Rules.State) → length t.units ≡ max_resources → table_judged t ≡ 0 → Well (table_of t) st
+-- The arrays of a state that is well formed by the rules are such.
+holds : (t : Table) (st : Rules.State) → length t.units ≡ max_resources → table_judged t ≡ 0 → Well (table_of t) st
     → (s : State) → s ≡ arrays_of t st → Holds t st s
 holds t st u j w s e =
     record {
-      arrays = e;
       formed = ap well_formed e ∙ arrays_well t st j u w;
       view = ap state_of e ∙ well_back t st j u w;
       table = ap (λ (x : State). x.table) e;
@@ -60,6 +58,15 @@ holds_changed s e left u h a c =
     let t = table_of s.table in
     let w = well_listed s h (accepted_listed t (state_of s) e (sym a)) in
     holds s.table (R.change t (state_of s) e) u (formed s h).judged (well_change t (state_of s) e (sym a) w) left (c ∙ rw (← a) refl)
+
+-- .. and so is what it has left after one.
+pub holds_after : (s : State) (e : R.Event) (after : State) → length s.table.units ≡ max_resources → well_formed s ≡ true
+    → 0 ≡ R.refusal (table_of s.table) (state_of s) e → after ≡ arrays_of s.table (R.after (table_of s.table) (state_of s) e)
+    → Holds s.table (R.after (table_of s.table) (state_of s) e) after
+holds_after s e after u h a c =
+    let t = table_of s.table in
+    let w = well_listed s h (accepted_listed t (state_of s) e (sym a)) in
+    holds s.table (R.after t (state_of s) e) u (formed s h).judged (well_after t (state_of s) e w) after c
 
 -- A refused event leaves the state as it was.
 pub changed_refused : (s : State) (e : R.Event) → eqb (R.refusal (table_of s.table) (state_of s) e) 0 ≡ false → changed s e ≡ s

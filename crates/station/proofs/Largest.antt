@@ -14,25 +14,13 @@ use Rattle.rules.specs.Table as R
 use Rattle.rules.specs.Table.{no_job, job_count, resource_count, job_of, need_of, level_of}
 use Rattle.rules.specs.State.{Started, free_in, running_level}
 use Rattle.rules.specs.Ceilings.{ceiling, resource_ceiling, system_ceiling}
-use Rattle.rules.proofs.Counts.{every_below_make}
+use Rattle.rules.proofs.Counts.{max_below_same, every_below_same, every_below_first, every_below_make}
 use Rattle.table.specs.declared.Job.{Job}
 use Rattle.table.specs.declared.Table.{Table}
 use Rattle.table.specs.Arrays.{absent_job, job_in, table_of}
 use Rattle.station.proofs.Units.{listed_resource}
 
 -- ---- laws of the largest
-
--- The largest of the same amounts.
-max_below_same : (n : ℕ) (f g : ℕ → ℕ) → ((i : ℕ) → i < n → f i ≡ g i) → max_below n f ≡ max_below n g
-unfolding max_below
-max_below_same zero f g h = refl
-max_below_same (suc n) f g h = ap₂ max (max_below_same n f g (λ i l. h i (omega arith))) (h n (omega arith))
-
--- The same tests of all.
-every_below_same : (n : ℕ) (p q : ℕ → Bool) → ((i : ℕ) → i < n → p i ≡ q i) → every_below n p ≡ every_below n q
-unfolding every_below
-every_below_same zero p q h = refl
-every_below_same (suc n) p q h = ap₂ ◌&&◌ (every_below_same n p q (λ i l. h i (omega arith))) (h n (omega arith))
 
 -- The larger of two largest is the largest of the larger ones.
 max_below_max : (n : ℕ) (f g : ℕ → ℕ) → max (max_below n f) (max_below n g) ≡ max_below n (λ i. max (f i) (g i))
@@ -115,12 +103,6 @@ abbrev pub levels_above : ℕ → ℕ → List Job → ℕ → ℕ
 levels_above r v js i = level_above r v (get_or js i absent_job)
 
 -- ---- some need above what is free: as the chain tests the pairs
-
--- A test of every number begins with 0.
-every_below_first : (n : ℕ) (p : ℕ → Bool) → every_below (suc n) p ≡ (p 0 && every_below n (λ r. p (suc r)))
-unfolding every_below
-every_below_first zero p = grind arith
-every_below_first (suc n) p = grind (arith, every_below_first n p)
 
 -- One pair, then the others.
 above_or : (x y : ℕ) (b : Bool) → (ltb y x || not b) ≡ not (leb x y && b)

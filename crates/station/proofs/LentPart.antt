@@ -1,7 +1,7 @@
 -- A part of a lent slice is lent on under a name of its own, and what the slice ends as follows what the part ends as: the bytes before it and
 -- behind it are put by, and are put back around it. Assumes `Logic`.
 use mathlib.Core.Path.{◌≡◌, refl, sym, ap, ◌∙◌}
-use Prim.Native.Nat.{ℕ, ◌+◌, ◌-◌, ◌≤◌}
+use Prim.Native.Nat.{ℕ, ◌+◌, ◌≤◌}
 use native.Mathlib.Omega.{arith}
 use mathlib.Core.List.{List, [], ◌∷◌, ◌++◌}
 use lib.ListN.{length, take, drop as drop_list, length-append, length-drop, take-append-drop}

@@ -1,14 +1,18 @@
 -- What is proved of the station, each file over those before it.
 mod View
+mod Parts
 mod Back
-mod Once
+mod Room
+mod Well
 mod Formed
+mod Once
 mod Active
 mod Units
 mod Largest
 mod Word
 mod Places
 mod Changes
+mod Entering
 mod Refusing
 mod Kept
 mod Refused

@@ -2,7 +2,7 @@
 -- has the last listed place, and past the listed resources that place is zero, so its units are the rules' and their sum is that of its array.
 use Rattle.std.specs.Prelude.{◌≡◌, refl, Bool, true, false, List, [], ◌∷◌, ℕ, zero, suc, ◌+◌, ◌-◌, ◌<◌, length, get_or, take, drop, ltb, eqb, Some, slice_get}
 use Rattle.std.specs.List.{list_any}
-use Rattle.std.proofs.Common.{ap, sym, ◌∙◌, arith, length-take}
+use Rattle.std.proofs.Common.{ap, sym, ◌∙◌, arith}
 use Rattle.std.proofs.lemmas.Bool.{and_parts}
 use Rattle.std.proofs.lemmas.Bool.Decides.{nat_tests}
 use Rattle.std.proofs.lemmas.List.{get_or-take}
@@ -21,11 +21,13 @@ use Rattle.table.specs.Arrays.{table_of}
 use Rattle.table.specs.Judging.{is_zero}
 use Rattle.table.specs.Refusals.{number_of}
 use Rattle.table.proofs.Numbers.{number_not_zero}
+use Rattle.table.proofs.Fit.{few_resources_listed}
 use Rattle.station.specs.declared.Started.{Started}
 use Rattle.station.specs.declared.State.{State}
 use Rattle.station.specs.Arrays.{state_of}
 use Rattle.station.specs.WellFormed.{held_blank, well_formed}
-use Rattle.station.proofs.Back.{formed, judged_parts}
+use Rattle.station.proofs.Parts.{formed, table_fit}
+use Rattle.station.proofs.Units.{listed_resource}
 
 -- ---- the tests that the events of the running job share
 
@@ -60,14 +62,18 @@ last_blank s f w e =
 
 -- A listed resource has a place in each array of units.
 pub listed_fits : (s : State) (r : ℕ) → well_formed s ≡ true → r < resource_count (table_of s.table) → r < max_resources
-listed_fits s r w l = omega (arith, length-take s.table.resource_count s.table.units, (judged_parts s.table (formed s w).judged).few_resources)
+listed_fits s r w l = omega (arith, few_resources_listed s.table (table_fit s w))
+
+-- So has one that 15 lets pass.
+pub amount_fits : (s : State) (r n : ℕ) → well_formed s ≡ true → 0 ≡ first_bad (no_such_resource (table_of s.table) r ∷ no_amount n ∷ []) → r < max_resources
+amount_fits s r n w e = listed_fits s r w (amount_listed (table_of s.table) r n e)
 
 -- The units of a listed resource are the rules'.
 pub holds_at : (s : State) (h : List ℕ) (r : ℕ) → running_held (state_of s).stack ≡ take s.table.resource_count h → r < resource_count (table_of s.table)
     → get_or h r 0 ≡ holds_of (state_of s) r
 holds_at s h r e l =
     let m = s.table.resource_count in
-    sym (ap (λ hs. get_or hs r 0) e ∙ get_or-take m h r 0 (omega (arith, length-take m s.table.units)))
+    sym (ap (λ hs. get_or hs r 0) e ∙ get_or-take m h r 0 (listed_resource m r s.table.units l))
 
 -- ---- all that it holds
 

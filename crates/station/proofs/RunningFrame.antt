@@ -1,11 +1,10 @@
 -- The running job's frame: the last place that is counted is the top of the rules' stack, so the frame ends where all frames end, and starts
 -- as many bytes before; and all frames together fit the stack size.
-use Rattle.std.specs.Prelude.{◌≡◌, ◌≢◌, refl, Bool, true, false, ◌&&◌, List, [], ◌∷◌, map, reverse, ℕ, ◌+◌, ◌-◌, ◌≤◌, ◌<◌, length, take, eqb, Some, None, slice_get}
+use Rattle.std.specs.Prelude.{◌≡◌, ◌≢◌, refl, true, false, List, [], ◌∷◌, map, reverse, ℕ, ◌+◌, ◌-◌, ◌≤◌, ◌<◌, length, take, Some, None, slice_get}
 use Rattle.std.proofs.Common.{ap, ap₂, sym, ◌∙◌, arith, eq-eqb, ne_eqb}
 use Rattle.std.proofs.Math.Bool.{and-false}
-use Rattle.std.proofs.lemmas.List.{length-take, take_all}
-use Rattle.std.proofs.lemmas.Option.{slice_get_within, get_or_from_slice_get, slice_get-get_or, none-some}
-use Rattle.rules.specs.Choice.{pick}
+use Rattle.std.proofs.lemmas.List.{nil_from_length, length-take, take_all}
+use Rattle.std.proofs.lemmas.Option.{slice_get_within, get_or_from_slice_get}
 use Rattle.rules.specs.Table.{frame_of}
 use Rattle.rules.specs.Memory.{frame_start}
 use Rattle.rules.proofs.Frames.{frames_fit}
@@ -14,27 +13,20 @@ use Rattle.station.specs.declared.Started.{Started}
 use Rattle.station.specs.declared.State.{State}
 use Rattle.station.specs.Arrays.{started_in, state_of}
 use Rattle.station.specs.WellFormed.{well_formed}
-use Rattle.station.specs.Frame.{no_part, part_between, top_frame, running_part}
-use Rattle.station.proofs.View.{stack_up, stack_more}
-use Rattle.station.proofs.Back.{well_active}
+use Rattle.station.specs.Frame.{part_between, top_frame, running_part}
+use Rattle.station.proofs.View.{stack_up, stack_more, none_at}
+use Rattle.station.proofs.Well.{well_active}
 
 -- ---- no frame
 
-pick_same : {A : Type 0} (b : Bool) (x : A) → pick b x x ≡ x
-pick_same true x = refl
-pick_same false x = refl
-
 -- A list with no last element.
 empty : (fs : List Started) → None ≡ slice_get fs (length fs - 1) → fs ≡ []
-empty [] e = refl
-empty (f ∷ fs) e = absurd (none-some _ (e ∙ slice_get-get_or (f ∷ fs) (length (f ∷ fs) - 1) f (omega arith)))
+empty fs e = nil_from_length fs (omega (arith, none_at fs (length fs - 1) e))
 
 -- Nothing runs.
-pub nothing_runs : (s : State) (n : ℕ) (fs : List Started) → fs ≡ take s.depth s.stack → None ≡ slice_get fs (length fs - 1) → running_part s n ≡ part_between 0 0
-unfolding running_part
-nothing_runs s n fs e h =
-    ap (λ gs. pick (well_formed s && eqb n s.table.size) (top_frame (table_of s.table) (reverse (map (started_in s.table.resource_count) gs))) no_part) (sym e ∙ empty fs h)
-    ∙ pick_same (well_formed s && eqb n s.table.size) no_part
+pub nothing_runs : (s : State) (fs : List Started) → fs ≡ take s.depth s.stack → None ≡ slice_get fs (length fs - 1)
+    → top_frame (table_of s.table) (state_of s).stack ≡ part_between 0 0
+nothing_runs s fs e h = ap (λ gs. top_frame (table_of s.table) (reverse (map (started_in s.table.resource_count) gs))) (sym e ∙ empty fs h)
 
 -- 11, 10.
 pub wrong_length : (s : State) (n : ℕ) → n ≢ s.table.size → running_part s n ≡ part_between 0 0
@@ -48,6 +40,7 @@ not_formed s n h = rw h refl
 -- ---- the frame of the last place that is counted
 
 module _ (s : State) (fs : List Started) (f : Started) (e : fs ≡ take s.depth s.stack) (h : Some f ≡ slice_get fs (length fs - 1)) where
+  -- It is the top of the rules' stack.
   last_is_top : (state_of s).stack ≡ started_in s.table.resource_count f ∷ stack_up s.table.resource_count (length fs - 1) fs
   last_is_top =
       let m = s.table.resource_count in
@@ -64,24 +57,29 @@ module _ (s : State) (fs : List Started) (f : Started) (e : fs ≡ take s.depth 
   unfolding frame_start
   frames_are = ap (frame_start (table_of s.table)) last_is_top
 
+  -- So its frame is no longer than all of them ..
   pub frame_within : frame_of (table_of s.table) f.job.0 ≤ frame_start (table_of s.table) (state_of s).stack
   frame_within = omega (arith, frames_are)
 
-  pub frame_is : (n : ℕ) → well_formed s ≡ true → n ≡ s.table.size
-      → running_part s n ≡ part_between (frame_start (table_of s.table) (state_of s).stack - frame_of (table_of s.table) f.job.0) (frame_start (table_of s.table) (state_of s).stack)
-  unfolding running_part
-  frame_is n w l =
+  -- .. and lies between where the others end and where all end.
+  pub frame_is : top_frame (table_of s.table) (state_of s).stack
+      ≡ part_between (frame_start (table_of s.table) (state_of s).stack - frame_of (table_of s.table) f.job.0) (frame_start (table_of s.table) (state_of s).stack)
+  frame_is =
       let t = table_of s.table in
       let fr = frame_of t f.job.0 in
       let end = frame_start t (state_of s).stack in
       let start : frame_start t (stack_up s.table.resource_count (length fs - 1) fs) ≡ end - fr = omega (arith, frames_are) in
       let long : fr ≡ end - (end - fr) = omega (arith, frames_are) in
-      ap₂ (λ b c. pick (b && c) (top_frame t (state_of s).stack) no_part) w (eq-eqb n s.table.size l)
-      ∙ ap (top_frame t) last_is_top
-      ∙ ap₂ (λ (a k : ℕ). record { start = a; length = k }) start long
+      ap (top_frame t) last_is_top ∙ ap₂ (λ (a k : ℕ). record { start = a; length = k }) start long
 
   -- All frames fit: a job is started, so the table lists one.
-  pub frames_within : (n : ℕ) → well_formed s ≡ true → n ≡ s.table.size → frame_start (table_of s.table) (state_of s).stack ≤ n
-  frames_within n w l =
+  pub frames_within : well_formed s ≡ true → frame_start (table_of s.table) (state_of s).stack ≤ s.table.size
+  frames_within w =
       let some : length fs - 1 < length fs = slice_get_within fs (length fs - 1) f (sym h) in
-      rw l (frames_fit (table_of s.table) (state_of s) (well_active s w (omega (arith, ap length e, length-take s.depth s.stack))))
+      frames_fit (table_of s.table) (state_of s) (well_active s w (omega (arith, ap length e, length-take s.depth s.stack)))
+
+-- ---- the running job's frame is the one on top, where the state and the memory's length are right
+
+pub running_top : (s : State) (n : ℕ) → well_formed s ≡ true → n ≡ s.table.size → running_part s n ≡ top_frame (table_of s.table) (state_of s).stack
+unfolding running_part
+running_top s n w l = simp (w, eq-eqb n s.table.size l) refl

@@ -1,42 +1,32 @@
--- A start: the new frame lies within the stack memory, since the state with the head started is well formed and its frames fit; and the system
--- ceiling that the start leaves is the head's level, since the new job holds nothing and its level was above the ceiling before.
-use Rattle.std.specs.Prelude.{◌≡◌, refl, true, false, List, [], ◌∷◌, ◌++◌, ℕ, zero, suc, ◌+◌, ◌≤◌, ◌<◌, max, length, ltb, map, take, drop, replicate, get_or, Option, Some, None}
-use Rattle.std.proofs.Common.{ap, ap₂, sym, subst, ◌∙◌, arith, le_trans, le_antisymm, lt-ltb, option_copied, Bor}
+-- A start: there is room for the head, since no more jobs are active than are listed; and the system ceiling that the start leaves is the head's
+-- level, since the new job holds nothing and its level was above the ceiling before.
+use Rattle.std.specs.Prelude.{◌≡◌, refl, true, false, List, [], ◌∷◌, ℕ, ◌≤◌, ◌<◌, length, map, take, drop, Option, Some, None}
 use Rattle.std.specs.List.{slice_get}
-use Rattle.std.proofs.lemmas.List.{length-take-le, length-drop, drop-drop}
-use borrow.Rule.Slice.PartMut.{put_mid}
+use Rattle.std.proofs.Common.{ap, sym, ◌∙◌, arith, le_antisymm, lt-ltb, option_copied, Bor}
+use Rattle.std.proofs.lemmas.List.{nil_from_length}
 use Rattle.std.proofs.lemmas.Bool.Decides.{nat_tests}
 use Rattle.rules.specs.Limits.{max_jobs}
-use Rattle.rules.specs.Choice.{pick}
-use Rattle.rules.specs.Table.{Table, resource_count, level_of, frame_of}
+use Rattle.rules.specs.Table.{Table, resource_count, level_of}
 use Rattle.rules.specs.State.{Entry, Started, State, put, level_at, held_in}
 use Rattle.rules.specs.Ceilings.{resource_ceiling, system_ceiling}
 use Rattle.rules.specs.Start.{starts, newly_started, with_start, start_test}
-use Rattle.rules.specs.Memory.{frame_start, cleared, cleared_frame}
+use Rattle.rules.proofs.Counts.{zeros_at}
 use Rattle.rules.proofs.Ceilings.{resource_ceiling_mono}
-use Rattle.rules.proofs.Kept.{held_zeros, well_push}
-use Rattle.rules.proofs.Frames.{frames_fit}
-use Rattle.rules.proofs.Well.{Well}
 use Rattle.table.specs.declared.JobNo.{JobNo}
-use Rattle.station.specs.declared.State as Arrays
 use Rattle.table.specs.Arrays.{table_of}
+use Rattle.station.specs.declared.State as Arrays
 use Rattle.station.specs.Arrays.{entry_of, state_of, arrays_of}
 use Rattle.station.specs.WellFormed.{well_formed}
-use Rattle.station.proofs.Back.{state_back, room, well_active}
-
--- The head's frame fits above the stack.
-pub head_fits : (t : Table) (s : State) (k : Entry) (ks : List Entry) → s.waiting ≡ k ∷ ks → Well t s → starts t s.stack s.waiting ≡ true
-    → frame_start t s.stack + frame_of t k.who ≤ t.size
-unfolding frame_start
-head_fits t s k ks e w h =
-    frames_fit t (put s (newly_started t k ∷ s.stack) ks)
-    (well_push t s s.stack k ks (ap (starts t s.stack) (sym e) ∙ h) (subst (λ ls. Well t (put s s.stack ls)) e w))
+use Rattle.station.proofs.View.{none_at}
+use Rattle.station.proofs.Back.{counted, state_back}
+use Rattle.station.proofs.Room.{room}
 
 -- A job that holds nothing takes no units.
 new_held : (t : Table) (k : Entry) (fs : List Started) (r : ℕ) → held_in (newly_started t k ∷ fs) r ≡ held_in fs r
 unfolding held_in
-new_held t k fs r = omega (arith, held_zeros (resource_count t) r)
+new_held t k fs r = omega (arith, zeros_at (resource_count t) r)
 
+-- So it changes no ceiling.
 same_ceiling : (t : Table) (k : Entry) (fs : List Started) → resource_ceiling t (newly_started t k ∷ fs) ≡ resource_ceiling t fs
 same_ceiling t k fs =
     le_antisymm
@@ -44,7 +34,7 @@ same_ceiling t k fs =
     (resource_ceiling_mono t fs (newly_started t k ∷ fs) (λ r l. omega (arith, new_held t k fs r)))
 
 -- The system ceiling after a start.
-pub ceiling_started : (t : Table) (fs : List Started) (k : Entry) (ks : List Entry) → starts t fs (k ∷ ks) ≡ true
+ceiling_started : (t : Table) (fs : List Started) (k : Entry) (ks : List Entry) → starts t fs (k ∷ ks) ≡ true
     → system_ceiling t (newly_started t k ∷ fs) ≡ level_at t k
 unfolding starts system_ceiling
 ceiling_started t fs k ks h = rw (same_ceiling t k fs) (grind (arith, nat_tests))
@@ -53,10 +43,9 @@ ceiling_started t fs k ks h = rw (same_ceiling t k fs) (grind (arith, nat_tests)
 
 -- The first of a list, as it is read.
 pub none_first : {A : Type 0} (xs : List A) → None ≡ slice_get xs 0 → xs ≡ []
-none_first [] e = refl
-none_first (x ∷ xs) e = grind arith
+none_first xs e = nil_from_length xs (omega (arith, none_at xs 0 e))
 
-pub head_first : {A : Type 0} (x : A) (xs : List A) → Some x ≡ slice_get xs 0 → xs ≡ x ∷ drop 1 xs
+head_first : {A : Type 0} (x : A) (xs : List A) → Some x ≡ slice_get xs 0 → xs ≡ x ∷ drop 1 xs
 head_first x [] e = grind arith
 head_first x (y ∷ ys) e = grind arith
 
@@ -70,12 +59,13 @@ pub head_waits : (s : Arrays.State) (ws : List JobNo) (o : Option (Bor JobNo)) (
     → option_copied o ≡ slice_get ws 0 → o ≡ Some x → (state_of s).waiting ≡ entry_of x.now ∷ map entry_of (drop 1 ws)
 head_waits s ws o x e f h = ap (map entry_of) (sym e ∙ head_first x.now ws (sym (ap option_copied h) ∙ f))
 
--- It starts exactly if its level is greater than the system ceiling.
+-- It stays where its level is not above the system ceiling.
 pub head_stays : (t : Table) (fs : List Started) (k : Entry) (ks ls : List Entry) → ls ≡ k ∷ ks → level_at t k ≤ system_ceiling t fs
     → starts t fs ls ≡ false
 unfolding starts
 head_stays t fs k ks ls e l = rw e (grind (arith, nat_tests))
 
+-- It starts where its level is above.
 head_starts : (t : Table) (fs : List Started) (k : Entry) (ks ls : List Entry) → ls ≡ k ∷ ks → system_ceiling t fs < level_at t k
     → starts t fs ls ≡ true
 unfolding starts
@@ -87,6 +77,7 @@ pub record Starts (s : Arrays.State) (j : JobNo) : Type 0 where
   pub waits : (state_of s).waiting ≡ entry_of j ∷ rest
   pub test : starts (table_of s.table) (state_of s).stack (state_of s).waiting ≡ true
 
+-- By what the code has read and compared.
 pub head_goes : (s : Arrays.State) (ws : List JobNo) (o : Option (Bor JobNo)) (x : Bor JobNo) → ws ≡ take s.waiting_count s.waiting
     → option_copied o ≡ slice_get ws 0 → o ≡ Some x
     → (level limit : ℕ) → level ≡ level_of (table_of s.table) x.now.0 → limit ≡ system_ceiling (table_of s.table) (state_of s).stack → limit < level
@@ -101,10 +92,12 @@ head_goes s ws o x e f h level limit p q l =
 
 -- ---- what the start test leaves
 
-pub no_start : (t : Table) (s : State) → starts t s.stack s.waiting ≡ false → start_test t s ≡ s
+-- Where nobody starts, the state as it was ..
+no_start : (t : Table) (s : State) → starts t s.stack s.waiting ≡ false → start_test t s ≡ s
 unfolding start_test
 no_start t s h = rw h refl
 
+-- .. and where the head starts, a start.
 pub a_start : (t : Table) (s : State) → starts t s.stack s.waiting ≡ true → start_test t s ≡ with_start t s s.waiting
 unfolding start_test
 a_start t s h = rw h refl
@@ -119,39 +112,21 @@ pub state_kept : (s : Arrays.State) → well_formed s ≡ true → starts (table
 state_kept s w h = sym (state_back s w) ∙ ap (arrays_of s.table) (sym (no_start (table_of s.table) (state_of s) h))
 
 -- Where the head starts, it stands on the stack ..
-pub head_started : (t : Table) (s : State) (k : Entry) (ks : List Entry) → s.waiting ≡ k ∷ ks → starts t s.stack s.waiting ≡ true
+head_stands : (t : Table) (s : State) (k : Entry) (ks : List Entry) → s.waiting ≡ k ∷ ks → starts t s.stack s.waiting ≡ true
     → start_test t s ≡ put s (newly_started t k ∷ s.stack) ks
-head_started t s k ks e h = a_start t s h ∙ ap (with_start t s) e
+head_stands t s k ks e h = a_start t s h ∙ ap (with_start t s) e
 
--- .. its level is the system ceiling ..
+-- .. and its level is the system ceiling.
 pub ceiling_left : (t : Table) (s : State) (k : Entry) (ks : List Entry) → s.waiting ≡ k ∷ ks → starts t s.stack s.waiting ≡ true
     → level_at t k ≡ system_ceiling t (start_test t s).stack
 ceiling_left t s k ks e h =
     sym (ceiling_started t s.stack k ks (ap (starts t s.stack) (sym e) ∙ h))
-    ∙ ap (λ (x : State). system_ceiling t x.stack) (sym (head_started t s k ks e h))
-
--- .. and its frame is zero.
-pub frame_left : (t : Table) (s : State) (k : Entry) (ks : List Entry) (m : List ℕ) → s.waiting ≡ k ∷ ks → starts t s.stack s.waiting ≡ true
-    → cleared (frame_start t s.stack) (frame_of t k.who) m ≡ pick (starts t s.stack s.waiting) (cleared_frame t (start_test t s).stack m) m
-frame_left t s k ks m e h = rw (h, head_started t s k ks e h) refl
-
--- The part of the memory from a on, k bytes long, that was lent and filled with zeros.
-pub part_cleared : (m w : List ℕ) (a n k : ℕ) → k ≡ n → a + n ≤ length m → w ≡ replicate (length (take k (drop a m))) 0 → put_mid a k m w ≡ cleared a n m
-part_cleared m w a n k e l f =
-    ap₂ (λ u v. take a m ++ (u ++ v))
-    (f ∙ ap (λ i. replicate i 0) (length-take-le k (drop a m) (omega (arith, length-drop a m)) ∙ e))
-    (drop-drop k a m ∙ ap (λ i. drop (a + i) m) e)
+    ∙ ap (λ (x : State). system_ceiling t x.stack) (sym (head_stands t s k ks e h))
 
 -- Who waits is counted ..
-counted : (n : ℕ) (js : List JobNo) (k : Entry) (ks : List Entry) → map entry_of (take n js) ≡ k ∷ ks → 0 < n
-counted zero js k ks e = grind arith
-counted (suc n) js k ks e = omega arith
+head_counted : (s : Arrays.State) → well_formed s ≡ true → (k : Entry) (ks : List Entry) → (state_of s).waiting ≡ k ∷ ks → 0 < s.waiting_count
+head_counted s h k ks e = omega (arith, ap length e, counted s h)
 
--- .. so there is room on the stack, since no more are active than there is room for ..
+-- .. so there is room on the stack, since no more are active than there is room for.
 pub head_room : (s : Arrays.State) → well_formed s ≡ true → (k : Entry) (ks : List Entry) → (state_of s).waiting ≡ k ∷ ks → s.depth < max_jobs
-head_room s h k ks e = omega (arith, (room s h).active, (room s h).jobs, counted s.waiting_count s.waiting k ks e)
-
--- .. and the state is well formed by the rules.
-pub head_well : (s : Arrays.State) → well_formed s ≡ true → (k : Entry) (ks : List Entry) → (state_of s).waiting ≡ k ∷ ks
-    → Well (table_of s.table) (state_of s)
-head_well s h k ks e = well_active s h (omega (arith, counted s.waiting_count s.waiting k ks e))
+head_room s h k ks e = omega (arith, (room s h).active, (room s h).jobs, head_counted s h k ks e)

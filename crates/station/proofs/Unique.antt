@@ -5,8 +5,9 @@ use Rattle.std.proofs.Common.{sym, ap, ◌∙◌, arith}
 use Rattle.table.specs.declared.JobNo.{JobNo}
 use Rattle.table.specs.declared.Level.{Level}
 use Rattle.table.specs.declared.Refusal.{Refusal}
-use Rattle.table.proofs.Numbers.{number_once, in_numbers_once, judged_once}
-use Rattle.tagged_event.specs.Answers.{event_of}
+use Rattle.table.proofs.Numbers.{number_once, number_not_zero, in_numbers_once, judged_once}
+use Rattle.station.specs.declared.work.Station.{Station}
+use Rattle.station.specs.Arrays.{who}
 use Rattle.station.specs.Reading.{level_said, job_said}
 use Rattle.station.specs.Sequence.{Applied}
 use Rattle.station.proofs.StartedDefault.default.Reads as started_of_zeros
@@ -20,6 +21,12 @@ use Rattle.station.proofs.State.number_waiting.Reads as number_waiting
 use Rattle.station.proofs.State.waiting_word.Reads as waiting_word
 use Rattle.station.proofs.State.apply.Reads as apply
 use Rattle.station.proofs.State.running_frame.Reads as running_frame
+use Rattle.station.proofs.work.Station.new.Reads as at_work
+use Rattle.station.proofs.work.Station.apply.Reads as worked
+use Rattle.station.proofs.work.Station.running.Reads as runs_now
+use Rattle.station.proofs.work.Station.system_ceiling.Reads as ceiling_now
+use Rattle.station.proofs.work.Station.number_waiting.Reads as waiting_now
+use Rattle.station.proofs.work.Station.waiting_word.Reads as word_now
 
 -- ---- a word for each answer in numbers
 
@@ -81,3 +88,41 @@ apply_applied κs a r x p = record { answered = p.0; left = p.1.0 }
 pub running_frame_agrees : (κs : _) (a : _) (r₁ r₂ : _) (x₁ x₂ : _) → running_frame.Post κs a r₁ x₁ → running_frame.Post κs a r₂ x₂
     → (r₁.now ≡ r₂.now) × (r₁.ref_ptr ≡ r₂.ref_ptr)
 running_frame_agrees κs a r₁ r₂ x₁ x₂ p q = (p.bytes ∙ sym q.bytes, p.address ∙ sym q.address)
+
+-- ---- a station at work
+
+-- Its state, or the refusal. (Its ceiling is the one of that state.)
+abbrev pub SameMade : Result Station Refusal → Result Station Refusal → Type 0
+SameMade (Ok x) (Ok y) = x.state ≡ y.state
+SameMade (Ok x) (Err y) = ⊥
+SameMade (Err x) (Ok y) = ⊥
+SameMade (Err x) (Err y) = x ≡ y
+
+pub at_work_agrees : (κs : _) (a : _) (r₁ r₂ : _) (x₁ x₂ : _) → at_work.Post κs a r₁ x₁ → at_work.Post κs a r₂ x₂ → SameMade r₁ r₂
+at_work_agrees κs a (Ok r₁) (Ok r₂) x₁ x₂ p q = p.1 ∙ sym q.1
+at_work_agrees κs a (Ok r₁) (Err r₂) x₁ x₂ p q = number_not_zero r₂ (q ∙ p.0)
+at_work_agrees κs a (Err r₁) (Ok r₂) x₁ x₂ p q = number_not_zero r₁ (p ∙ q.0)
+at_work_agrees κs a (Err r₁) (Err r₂) x₁ x₂ p q = number_once r₁ r₂ (p ∙ sym q)
+
+pub worked_agrees : (κs : _) (a : _) (r₁ r₂ : _) (x₁ x₂ : _) → worked.Post κs a r₁ x₁ → worked.Post κs a r₂ x₂
+    → (r₁ ≡ r₂) × (x₁.0.now.state ≡ x₂.0.now.state)
+worked_agrees κs a r₁ r₂ x₁ x₂ p q = (job_once r₁ r₂ (p.answered ∙ sym q.answered), p.arrays ∙ sym q.arrays)
+
+-- A job, if there is one.
+who_once : (x y : Option JobNo) → who x ≡ who y → x ≡ y
+who_once None None e = grind arith
+who_once None (Some y) e = grind arith
+who_once (Some x) None e = grind arith
+who_once (Some x) (Some y) e = grind arith
+
+pub runs_now_agrees : (κs : _) (a : _) (r₁ r₂ : _) (x₁ x₂ : _) → runs_now.Post κs a r₁ x₁ → runs_now.Post κs a r₂ x₂ → r₁ ≡ r₂
+runs_now_agrees κs a r₁ r₂ x₁ x₂ p q = who_once r₁ r₂ (p ∙ sym q)
+
+pub ceiling_now_agrees : (κs : _) (a : _) (r₁ r₂ : _) (x₁ x₂ : _) → ceiling_now.Post κs a r₁ x₁ → ceiling_now.Post κs a r₂ x₂ → r₁ ≡ r₂
+ceiling_now_agrees κs a r₁ r₂ x₁ x₂ p q = ap (λ (n : ℕ). record { 0 = n }) (p ∙ sym q)
+
+pub waiting_now_agrees : (κs : _) (a : _) (r₁ r₂ : _) (x₁ x₂ : _) → waiting_now.Post κs a r₁ x₁ → waiting_now.Post κs a r₂ x₂ → r₁ ≡ r₂
+waiting_now_agrees κs a r₁ r₂ x₁ x₂ p q = p ∙ sym q
+
+pub word_now_agrees : (κs : _) (a : _) (r₁ r₂ : _) (x₁ x₂ : _) → word_now.Post κs a r₁ x₁ → word_now.Post κs a r₂ x₂ → r₁ ≡ r₂
+word_now_agrees κs a r₁ r₂ x₁ x₂ p q = p ∙ sym q

@@ -1,8 +1,9 @@
 -- What is held and free, as the code adds it up over the places of the stack, from the lowest up.
 -- One place more adds what it holds, and an array of zeros says that nothing is held by no job.
-use Rattle.std.specs.Prelude.{◌≡◌, refl, List, [], ℕ, zero, suc, ◌+◌, ◌<◌, length, get_or, take, replicate}
+use Rattle.std.specs.Prelude.{◌≡◌, refl, List, [], ℕ, ◌+◌, ◌<◌, length, get_or, take, replicate}
 use Rattle.std.proofs.Common.{◌∙◌, arith, length-take, get_or-take}
 use Rattle.rules.specs.State.{held_in}
+use Rattle.rules.proofs.Counts.{zeros_at}
 use Rattle.station.specs.declared.Started.{Started}
 use Rattle.station.proofs.View.{stack_up, stack_more}
 
@@ -16,17 +17,11 @@ pub held_more : (m i r : ℕ) (xs : List Started) (d : Started) → i < length x
 unfolding held_in
 held_more m i r xs d l b = rw (stack_more m i xs d l) (omega (arith, get_or-take m (get_or xs i d).held r 0 b))
 
--- An array of zeros has 0 at each place and past it ..
-pub zero_at : (n r : ℕ) → get_or {A = ℕ} (replicate n 0) r 0 ≡ 0
-zero_at zero r = refl
-zero_at (suc n) zero = refl
-zero_at (suc n) (suc r) = zero_at n r
-
--- .. and nothing is held by no job.
+-- Nothing is held by no job ..
 pub held_none : (r : ℕ) → 0 ≡ held_in [] r
 unfolding held_in
 held_none r = refl
 
--- So an array of zeros says what is held by no job.
+-- .. and an array of zeros says so.
 pub nothing_held : (n r : ℕ) → get_or (replicate n 0) r 0 ≡ held_in [] r
-nothing_held n r = zero_at n r ∙ held_none r
+nothing_held n r = zeros_at n r ∙ held_none r

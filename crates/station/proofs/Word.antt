@@ -1,29 +1,28 @@
 -- The waiting word, as one pass over the waiting jobs adds it up: one job more, not there before, adds its bit.
 -- A sum of different powers of two, each below 2 ^ n, is below 2 ^ n.
-use Rattle.std.specs.Prelude.{◌≡◌, refl, Bool, true, false, ◌||◌, List, [], ◌∷◌, ◌++◌, map, ℕ, zero, suc, ◌+◌, ◌*◌, ◌%◌, ◌^◌, ◌≤◌, ◌<◌, length, get_or, take, leb, ltb, eqb}
-use Rattle.std.proofs.Common.{ap, ap₂, sym, ◌∙◌, arith, ⊎_elim}
-use Rattle.std.proofs.lemmas.Bool.{cases_eq, eq-eqb, ne_eqb, or_parts, or_from, and_parts, ltb-true, eqb-true}
+use Rattle.std.specs.Prelude.{◌≡◌, refl, Bool, true, false, ◌||◌, List, [], ◌∷◌, ◌++◌, map, ℕ, zero, suc, ◌+◌, ◌*◌, ◌%◌, ◌^◌, ◌≤◌, ◌<◌, length, get_or, take, eqb}
+use Rattle.std.proofs.Common.{ap, sym, ◌∙◌, arith, ⊎_elim}
+use Rattle.std.proofs.lemmas.Bool.{cases_eq, eq-eqb, ne_eqb, or_parts, or_from}
 use Rattle.std.proofs.Math.Bool.{or-false}
-use Rattle.std.proofs.lemmas.Bool.Decides.{nat_tests}
-use Rattle.std.proofs.lemmas.List.{map-append, take-map, take_more, length-map, length-take, length-take-le, get_or-map}
+use Rattle.std.proofs.lemmas.List.{map-append, take-map, take_more, length-map, get_or-map}
 use Rattle.std.proofs.lemmas.Nat.{pow_below}
 use Rattle.std.proofs.Math.Pow.{pow_mono}
 use Rattle.rules.specs.Choice.{pick}
-use Rattle.rules.specs.Counting.{sum_below, every, contains, each_once}
+use Rattle.rules.specs.Counting.{sum_below, contains, each_once}
 use Rattle.rules.specs.State.{started_jobs, waiting_jobs}
 use Rattle.rules.specs.Waiting.{waiting_word}
 use Rattle.rules.specs.Limits.{max_jobs}
-use Rattle.rules.specs.Table.{job_count, stack_good, table_checks}
-use Rattle.rules.proofs.Choices.{stopped}
-use Rattle.rules.proofs.Counts.{every_at, contains-append, eqb_flip, once_first}
-use Rattle.table.specs.declared.Table.{Table}
-use Rattle.table.specs.Arrays.{job_in, table_of}
-use Rattle.table.specs.Judging.{counts_fit, values_fit, table_judged}
+use Rattle.rules.specs.Table.{job_count}
+use Rattle.rules.proofs.Counts.{sum_below_same, contains-append, eqb_flip, once_first, once_behind}
 use Rattle.table.specs.declared.JobNo.{JobNo}
+use Rattle.table.specs.Arrays.{table_of}
 use Rattle.station.specs.declared.State.{State}
 use Rattle.station.specs.Arrays.{entry_of, state_of}
 use Rattle.station.specs.WellFormed.{well_formed}
-use Rattle.station.proofs.View.{every-append, jobs_waiting}
+use Rattle.station.proofs.View.{jobs_waiting}
+use Rattle.station.proofs.Parts.{formed}
+use Rattle.station.proofs.Room.{kept_active, room}
+use Rattle.station.proofs.Formed.{listed_waiting}
 
 -- The bits of the jobs that the test says.
 abbrev pub bits : ℕ → (ℕ → Bool) → ℕ
@@ -46,10 +45,7 @@ bits_small (suc n) p = omega (arith, bits_small n p, bit_small (p n) n, power_mo
 
 -- Only the tests below n count.
 bits_same : (n : ℕ) (p q : ℕ → Bool) → ((j : ℕ) → j < n → p j ≡ q j) → bits n p ≡ bits n q
-unfolding sum_below
-bits_same zero p q h = refl
-bits_same (suc n) p q h =
-    ap₂ ◌+◌ (bits_same n p q (λ j l. h j (omega arith))) (ap (λ b. pick b (2 ^ n) 0) (h n (omega arith)))
+bits_same n p q h = sum_below_same n _ _ (λ j l. ap (λ b. pick b (2 ^ j) 0) (h j l))
 
 -- No bits.
 bits_none : (n : ℕ) → 0 ≡ bits n (λ j. false)
@@ -99,11 +95,6 @@ once_at (x ∷ xs) (suc i) h l =
     let e = once_first x xs h in
     or_from (eqb x (get_or xs i 0)) _ (eqb_flip x (get_or xs i 0) ∙ absent_at x xs i e.0 (omega arith)) (once_at xs i e.1 (omega arith))
 
--- What is there once in two lists is there once in the second.
-once_behind : (xs ys : List ℕ) → each_once (xs ++ ys) ≡ true → each_once ys ≡ true
-once_behind [] ys h = h
-once_behind (x ∷ xs) ys h = once_behind xs ys (once_first x (xs ++ ys) h).1
-
 -- The numbers of the first i waiting jobs.
 abbrev pub numbers : ℕ → List JobNo → List ℕ
 numbers i ks = map (λ k. k.0) (take i ks)
@@ -127,7 +118,7 @@ unfolding contains
 contains_more j x xs = contains-append j xs (x ∷ []) ∙ ap (λ b. contains j xs || b) (or-false (eqb x j))
 
 -- One job more.
-pub word_more : (n i : ℕ) (ks : List JobNo) (d : JobNo) → i < length ks → (get_or ks i d).0 < n → contains (get_or ks i d).0 (numbers i ks) ≡ false
+word_more : (n i : ℕ) (ks : List JobNo) (d : JobNo) → i < length ks → (get_or ks i d).0 < n → contains (get_or ks i d).0 (numbers i ks) ≡ false
     → word_of n (i + 1) ks ≡ word_of n i ks + 2 ^ (get_or ks i d).0
 word_more n i ks d l b e =
     let x = (get_or ks i d).0 in
@@ -143,50 +134,10 @@ unfolding contains
 word_none n ks = bits_none n ∙ sym (word_bits n 0 ks)
 
 -- A word of n bits is below 2 ^ n.
-pub word_small : (n i : ℕ) (ks : List JobNo) → word_of n i ks < 2 ^ n
+word_small : (n i : ℕ) (ks : List JobNo) → word_of n i ks < 2 ^ n
 word_small n i ks = rw (word_bits n i ks) (bits_small n (λ j. contains j (numbers i ks)))
 
 -- ---- of a well-formed state
-
--- Each waiting job is listed, and there once.
-record Waits (s : State) : Type 0 where
-  few : job_count (table_of s.table) ≤ max_jobs
-  listed : every (λ j. ltb j (job_count (table_of s.table))) (map (λ k. k.0) (take s.waiting_count s.waiting)) ≡ true
-  once : each_once (map (λ k. k.0) (take s.waiting_count s.waiting)) ≡ true
-
--- A table that could be written has no more jobs than there is room for.
-few_jobs : (t : Table) → table_judged t ≡ 0 → job_count (table_of t) ≤ max_jobs
-unfolding table_judged
-few_jobs t h =
-    let checked = stopped 0 (table_checks (counts_fit t) (values_fit t) (stack_good (table_of t))) h in
-    let counted : t.job_count ≤ max_jobs = grind (arith, nat_tests) in
-    omega (arith, length-map (take t.job_count t.jobs) (job_in t.resource_count), length-take t.job_count t.jobs)
-
--- So it is in a well-formed state.
-waits : (s : State) → well_formed s ≡ true → Waits s
-unfolding well_formed
-waits s h =
-    let t = table_of s.table in
-    let js = started_jobs (state_of s).stack in
-    let ks = waiting_jobs (state_of s).waiting in
-    let numbered = jobs_waiting (take s.waiting_count s.waiting) in
-    let judged : eqb (table_judged s.table) 0 ≡ true = grind arith in
-    let listed : every (λ j. ltb j (job_count t)) (js ++ ks) ≡ true = grind arith in
-    let once : each_once (js ++ ks) ≡ true = grind arith in
-    record {
-      few = few_jobs s.table (eqb-true (table_judged s.table) 0 judged);
-      listed = rw (← numbered) ((and_parts _ _ (sym (every-append (λ j. ltb j (job_count t)) js ks) ∙ listed)).1);
-      once = rw (← numbered) (once_behind js ks once);
-    }
-
--- As many wait as are counted.
-pub counted : (s : State) → well_formed s ≡ true → length (state_of s).waiting ≡ s.waiting_count
-unfolding well_formed
-counted s h =
-    let few : leb s.waiting_count max_jobs ≡ true = grind arith in
-    let room : eqb (length s.waiting) max_jobs ≡ true = grind arith in
-    let enough : s.waiting_count ≤ length s.waiting = grind (arith, nat_tests) in
-    length-map (take s.waiting_count s.waiting) entry_of ∙ length-take-le s.waiting_count s.waiting enough
 
 -- What a step of the pass needs: the job's bit is one of the word's, new, and the sum is below 2 ^ 32.
 pub record Step (n : ℕ) (ks : List JobNo) (i x : ℕ) : Type 0 where
@@ -195,26 +146,28 @@ pub record Step (n : ℕ) (ks : List JobNo) (i x : ℕ) : Type 0 where
   pub more : word_of n (i + 1) ks ≡ word_of n i ks + 2 ^ x
   pub small : word_of n i ks + 2 ^ x < 2 ^ 32
 
-module _ (s : State) (ks : List JobNo) (i : ℕ) (d : JobNo) where
-  one_more : Waits s → ks ≡ take s.waiting_count s.waiting → i < length ks → Step (job_count (table_of s.table)) ks i (get_or ks i d).0
-  one_more w e l =
-      let n = job_count (table_of s.table) in
-      let x = (get_or ks i d).0 in
-      let js = map (λ (k : JobNo). k.0) ks in
-      let at : get_or js i 0 ≡ x = get_or-map (λ (k : JobNo). k.0) ks i d 0 l in
-      let long : i < length js = omega (arith, length-map ks (λ (k : JobNo). k.0)) in
-      let listed : every (λ j. ltb j n) js ≡ true = rw e w.listed in
-      let once : each_once js ≡ true = rw e w.once in
-      let below : x < n = rw at at (ltb-true (get_or js i 0) n (every_at (λ j. ltb j n) js listed i 0 long)) in
-      let new : contains x (numbers i ks) ≡ false = rw (at, take-map (λ (k : JobNo). k.0) i ks) at (once_at js i once long) in
-      let more : word_of n (i + 1) ks ≡ word_of n i ks + 2 ^ x = word_more n i ks d l below new in
-      let bit : 2 ^ x < 2 ^ 32 = pow_below x 32 (omega (arith, w.few)) in
-      record {
-        low = omega (arith, w.few);
-        shifted = omega arith;
-        more = more;
-        small = omega (arith, word_small n (i + 1) ks, pow_mono {i = n} {j = 32} (omega (arith, w.few)));
-      }
-
-  pub step : well_formed s ≡ true → ks ≡ take s.waiting_count s.waiting → i < length ks → Step (job_count (table_of s.table)) ks i (get_or ks i d).0
-  step h = one_more (waits s h)
+-- Each waiting job is listed, and there once, so each step of the pass is such.
+pub step : (s : State) (ks : List JobNo) (i : ℕ) (d : JobNo) → well_formed s ≡ true → ks ≡ take s.waiting_count s.waiting → i < length ks
+    → Step (job_count (table_of s.table)) ks i (get_or ks i d).0
+step s ks i d h e l =
+    let n = job_count (table_of s.table) in
+    let x = (get_or ks i d).0 in
+    let js = map (λ (k : JobNo). k.0) ks in
+    let p = kept_active (table_of s.table) (state_of s) (formed s h).kept in
+    let few : n ≤ max_jobs = (room s h).jobs in
+    let at : get_or js i 0 ≡ x = get_or-map (λ (k : JobNo). k.0) ks i d 0 l in
+    let long : i < length js = omega (arith, length-map ks (λ (k : JobNo). k.0)) in
+    let once : each_once js ≡ true =
+    ap (λ us. each_once (map (λ (k : JobNo). k.0) us)) e
+    ∙ ap each_once (sym (jobs_waiting (take s.waiting_count s.waiting)))
+    ∙ once_behind (started_jobs (state_of s).stack) (waiting_jobs (state_of s).waiting) p.1 in
+    let new : contains x (numbers i ks) ≡ false = rw (at, take-map (λ (k : JobNo). k.0) i ks) at (once_at js i once long) in
+    let below : x < n = listed_waiting s p.0 ks e i d l in
+    let more : word_of n (i + 1) ks ≡ word_of n i ks + 2 ^ x = word_more n i ks d l below new in
+    let bit : 2 ^ x < 2 ^ 32 = pow_below x 32 (omega arith) in
+    record {
+      low = omega arith;
+      shifted = omega arith;
+      more = more;
+      small = omega (arith, word_small n (i + 1) ks, pow_mono {i = n} {j = 32} (omega arith));
+    }

@@ -1,5 +1,5 @@
 -- The state that the arrays hold, and the arrays that hold a state: entries past a count are zero.
-use Rattle.std.specs.Prelude.{◌≡◌, List, [], ◌∷◌, ◌++◌, map, reverse, ℕ, length, take, replicate, eqb, Option, Some, None}
+use Rattle.std.specs.Prelude.{◌≡◌, [], map, reverse, ℕ, length, take, eqb, Option, Some, None}
 use Rattle.std.proofs.Math.Option as maybe
 use Rattle.rules.specs.Limits.{max_jobs, max_resources}
 use Rattle.rules.specs.Choice.{pick}
@@ -58,7 +58,7 @@ arrays_of t s =
 abbrev pub state_of_zeros : State
 state_of_zeros = arrays_of table_of_zeros R.fresh
 
--- A fresh state is made from a table that could be written; a refused one is a state of zeros.
+-- The fresh state of a table that could be written; of a refused one it is a state of zeros.
 abbrev pub fresh_state : Table → State
 fresh_state t = pick (eqb (table_judged t) 0) (arrays_of t R.fresh) state_of_zeros
 

@@ -25,7 +25,7 @@ LowerRuns s j = lower_runs (table_of s.table) (state_of s).stack j ≡ true
 abbrev pub HoldsUnits : State → ℕ → Type 0
 HoldsUnits s j = 0 < units_held (state_of s).stack j
 
--- One job runs at the moments p and q, both belong to one activation of it, and to one unbroken stretch in which it holds units.
+-- One job runs at the moments `from` and `to`, both belong to one activation of it, and to one unbroken stretch in which it holds units.
 pub record OneHolder {s : State} (q : Sequence s) (from to : ℕ) : Type 0 where
   pub job : ℕ
   pub runs_first : Runs (q.states from) job
@@ -33,6 +33,7 @@ pub record OneHolder {s : State} (q : Sequence s) (from to : ℕ) : Type 0 where
   pub one_activation : activation q.answers job from ≡ activation q.answers job to
   pub one_stretch : (m : ℕ) → from ≤ m → m ≤ to → HoldsUnits (q.states m) job
 
+-- The three statements.
 pub record Demand3 {s : State} (q : Sequence s) : Type 0 where
   -- (a) A running job that asks within its declared need is never told that too few units are free.
   pub enough : (m : ℕ) → q.answers m ≢ Err AboveFree

@@ -6,3 +6,4 @@ pub mod Applying
 pub mod Frame
 pub mod Sequence
 pub mod Demand3
+pub mod Working

@@ -41,7 +41,7 @@ waiting_blank s = eqb (length s.waiting) max_jobs && every (λ j. is_zero j.0) (
 abbrev pub blank : State → Bool
 blank s = stack_blank s && waiting_blank s
 
--- A state is well formed if its table could be written, entries past a count are zero, and the rules' tests of its jobs hold.
+-- A state is well formed if its table could be written, its counts fit, entries past a count are zero, and the rules' tests of its jobs hold.
 unfoldable pub well_formed : State → Bool
 well_formed s = table_fits s && counts_fit s && blank s && well_kept (table_of s.table) (state_of s)
 

@@ -8,7 +8,7 @@ ghost use Rattle.tagged_event.specs.Answers.{event_of};
 ghost use Rattle.station.specs.Arrays.{state_of};
 ghost use Rattle.station.specs.Reading.{job_said};
 ghost use Rattle.station.specs.WellFormed.{well_formed};
-ghost use Rattle.station.specs.Applying.{answer, state_after, memory_after, changed, step_said, Stepped};
+ghost use Rattle.station.specs.Applying.{answer, state_after, memory_after, changed, job_started, Stepped};
 
 use crate::State;
 use crate::jobs::unit_places;
@@ -30,25 +30,24 @@ impl State {
         if memory.len() != usize::from(self.table.size) {
             return Err(Refusal::WrongMemoryLength);
         }
-        started_by(self.step(event, memory))
+        let started = started_by(self.step(event)?);
+        if started.is_some() {
+            self.clear_top(memory);
+        }
+        Ok(started)
     }
 
-    /// One event on a well-formed state and a stack memory of the right length: the start test's answer, where one is made.
-    pub(crate) fn step(
-        &mut self,
-        event: Event,
-        memory: &mut [u8],
-    ) -> Result<Option<Tested>, Refusal>
-        requires well_formed { well_formed self.old ≡ true }
-        requires memory { length memory.old ≡ self.old.table.size }
-        ensures { Stepped self.old memory.old (event_of event) result self.new memory.new }
+    /// One event on a well-formed state: the start test's answer, where one is made.
+    pub(crate) fn step(&mut self, event: Event) -> Result<Option<Tested>, Refusal>
+        requires { well_formed self.old ≡ true }
+        ensures { Stepped self.old (event_of event) result self.new }
     {
         unit_places(&self.table);
         self.change(event)?;
         if !is_tested(event) {
             return Ok(None);
         }
-        Ok(Some(self.start_test(memory)))
+        Ok(Some(self.start_test()))
     }
 
     /// The refusal of an event, or else what it changes before any start test.
@@ -86,11 +85,11 @@ fn is_tested(event: Event) -> bool
 }
 
 /// The job that the start test started, where one was made.
-fn started_by(stepped: Result<Option<Tested>, Refusal>) -> Result<Option<JobNo>, Refusal>
-    ensures { job_said result ≡ step_said stepped }
+fn started_by(tested: Option<Tested>) -> Option<JobNo>
+    ensures { result ≡ job_started tested }
 {
-    match stepped? {
-        Some(tested) => Ok(tested.started),
-        None => Ok(None),
+    match tested {
+        Some(tested) => tested.started,
+        None => None,
     }
 }

@@ -11,12 +11,14 @@ mod moves;
 mod readers;
 mod start;
 mod well_formed;
+mod work;
 
 ghost use Rattle.std.specs.Prelude.{◌≡◌};
 
 pub use fresh::FreshState;
 use rules::{JOBS, RESOURCES};
 use table::{JobNo, Table};
+pub use work::Station;
 
 /// A place of the stack: a started, unfinished job, and the units that it holds of each resource.
 #[derive(Clone, Copy, Debug, PartialEq, Eq)]

@@ -45,7 +45,7 @@ impl State {
     }
 
     /// The number waiting.
-    #[tactic(auto, using(crate::proofs::Word::counted), unfolding(crate::specs::Reading::waiting_answer, rules::specs::Choice::first_bad))]
+    #[tactic(auto, using(crate::proofs::Back::counted), unfolding(crate::specs::Reading::waiting_answer, rules::specs::Choice::first_bad))]
     pub fn number_waiting(&self) -> Result<u8, Refusal>
         ensures { in_numbers result ≡ waiting_answer self.now }
     {

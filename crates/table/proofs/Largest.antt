@@ -3,7 +3,7 @@
 use Rattle.std.specs.Prelude.{◌≡◌, refl, List, ℕ, zero, suc, ◌+◌, max, ◌≤◌, ◌<◌, length, get_or, set, take, replicate, eqb}
 use Rattle.std.specs.List.{sum}
 use Rattle.std.specs.Ordering.{ord_max, nat_cmp}
-use Rattle.std.proofs.Common.{ap, ap₂, sym, ◌∙◌, arith, add-one, le_refl}
+use Rattle.std.proofs.Common.{ap, sym, ◌∙◌, arith, add-one, le_refl}
 use Rattle.std.proofs.Math.Seq.{take-length}
 use Rattle.std.proofs.lemmas.Bool.{cases_eq}
 use Rattle.std.proofs.lemmas.Bool.Decides.{nat_tests}
@@ -14,6 +14,7 @@ use Rattle.rules.specs.Counting.{max_below, sum_below}
 use Rattle.rules.specs.Limits.{max_level}
 use Rattle.rules.specs.Table as R
 use Rattle.rules.specs.Table.{no_job, level_of, room_of, largest_at, worst}
+use Rattle.rules.proofs.Counts.{max_below_same, sum_below_same}
 use Rattle.table.specs.declared.Job.{Job}
 use Rattle.table.specs.declared.Table.{Table}
 use Rattle.table.specs.Arrays.{absent_job, job_in, table_of}
@@ -28,13 +29,8 @@ frame_at l j = pick (eqb j.level.0 l) j.frame 0
 abbrev pub largest_of : List Job → ℕ → ℕ → ℕ
 largest_of js k l = max_below k (λ i. frame_at l (get_or js i absent_job))
 
-max_below_same : (n : ℕ) (f g : ℕ → ℕ) → ((i : ℕ) → i < n → f i ≡ g i) → max_below n f ≡ max_below n g
-unfolding max_below
-max_below_same zero f g h = refl
-max_below_same (suc n) f g h = ap₂ max (max_below_same n f g (λ i l. h i (omega arith))) (h n (omega arith))
-
 -- Of all listed jobs it is the table's.
-pub largest_listed : (t : Table) (l : ℕ) → largest_of (take t.job_count t.jobs) (length (take t.job_count t.jobs)) l ≡ largest_at (table_of t) l
+largest_listed : (t : Table) (l : ℕ) → largest_of (take t.job_count t.jobs) (length (take t.job_count t.jobs)) l ≡ largest_at (table_of t) l
 largest_listed t l =
     let js = take t.job_count t.jobs in
     max_below_same (length js) (λ i. frame_at l (get_or js i absent_job)) _
@@ -81,18 +77,13 @@ largest_all t js k xs e above below h l b =
 
 -- ---- the sum
 
-sum_below_same : (n : ℕ) (f g : ℕ → ℕ) → ((i : ℕ) → i < n → f i ≡ g i) → sum_below n f ≡ sum_below n g
-unfolding sum_below
-sum_below_same zero f g h = refl
-sum_below_same (suc n) f g h = ap₂ ◌+◌ (sum_below_same n f g (λ i l. h i (omega arith))) (h n (omega arith))
-
 -- A list's sum, entry by entry.
 sum_to : (xs : List ℕ) (n : ℕ) → n ≤ length xs → sum (take n xs) ≡ sum_below n (λ i. get_or xs i 0)
 unfolding sum_below
 sum_to xs zero l = refl
 sum_to xs (suc n) l = rw (← add-one) (sum_by_more (λ x. x) xs n 0 l ∙ ap (λ s. s + get_or xs n 0) (sum_to xs n (omega arith)))
 
-pub sum_is : (xs : List ℕ) (f : ℕ → ℕ) → ((i : ℕ) → i < length xs → get_or xs i 0 ≡ f i) → sum xs ≡ sum_below (length xs) f
+sum_is : (xs : List ℕ) (f : ℕ → ℕ) → ((i : ℕ) → i < length xs → get_or xs i 0 ≡ f i) → sum xs ≡ sum_below (length xs) f
 sum_is xs f h = sym (ap sum (take-length xs)) ∙ sum_to xs (length xs) (le_refl (length xs)) ∙ sum_below_same (length xs) _ f h
 
 -- The sum of the entries is the worst stack.

@@ -2,19 +2,17 @@
 use Rattle.std.specs.Prelude.{◌≡◌, refl, Bool, ◌&&◌, List, [], ◌∷◌, map, ℕ, zero, suc, length, take, leb}
 use Rattle.std.specs.List.{list_all, zip}
 use Rattle.std.proofs.Common.{ap, sym, ◌∙◌, arith}
-use Rattle.std.proofs.lemmas.List.Folds.{list_all-map}
 use Rattle.rules.specs.Counting.{every, none_above}
+use Rattle.rules.proofs.Counts.{every-map}
 
-pub every_all : {A : Type 0} (p : A → Bool) (xs : List A) → every p xs ≡ list_all p xs
+-- A test of all.
+every_all : {A : Type 0} (p : A → Bool) (xs : List A) → every p xs ≡ list_all p xs
 unfolding every
 every_all p [] = refl
 every_all p (x ∷ xs) = ap (λ b. p x && b) (every_all p xs)
 
-pub every_map : {A B : Type 0} (p : B → Bool) (f : A → B) (xs : List A) → every p (map f xs) ≡ list_all (λ x. p (f x)) xs
-every_map p f xs = every_all p (map f xs) ∙ list_all-map p f xs
-
 -- Amounts within bounds, of lists of one length: as far as both are listed.
-pub none_above_zip : (n : ℕ) (bs xs : List ℕ) → length bs ≡ length xs → none_above (take n bs) (take n xs) ≡ list_all (λ p. leb p.1 p.0) (zip (take n bs) xs)
+none_above_zip : (n : ℕ) (bs xs : List ℕ) → length bs ≡ length xs → none_above (take n bs) (take n xs) ≡ list_all (λ p. leb p.1 p.0) (zip (take n bs) xs)
 unfolding none_above
 none_above_zip zero bs xs e = refl
 none_above_zip (suc n) [] [] e = refl
@@ -27,7 +25,7 @@ pub by_all : {A : Type 0} (p : A → Bool) (xs : List A) (r : Bool) → r ≡ li
 by_all p xs r e = e ∙ sym (every_all p xs)
 
 pub by_all_mapped : {A B : Type 0} (p : B → Bool) (f : A → B) (xs : List A) (r : Bool) → r ≡ list_all (λ x. p (f x)) xs → r ≡ every p (map f xs)
-by_all_mapped p f xs r e = e ∙ sym (every_map p f xs)
+by_all_mapped p f xs r e = by_all (λ x. p (f x)) xs r e ∙ sym (every-map p f xs)
 
 pub by_zip : (n : ℕ) (bs xs : List ℕ) (r : Bool) → length bs ≡ length xs → r ≡ list_all (λ p. leb p.1 p.0) (zip (take n bs) xs) → r ≡ none_above (take n bs) (take n xs)
 by_zip n bs xs r l e = e ∙ sym (none_above_zip n bs xs l)

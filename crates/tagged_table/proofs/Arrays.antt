@@ -1,28 +1,27 @@
 -- The round trips of the code's own tables: what was written is read back as the same arrays, and what was read is written as it was.
 -- The rules' tables go round (`read_written`, `write_read`), and such arrays hold nothing beside their table: past its counts all is zero.
-use Rattle.std.specs.Prelude.{◌≡◌, refl, Bool, true, ◌&&◌, List, [], ◌∷◌, ◌++◌, map, ℕ, zero, suc, ◌-◌, ◌≤◌, length, take, drop, replicate, Ok}
-use Rattle.std.proofs.Common.{ap, ap₂, sym, ◌∙◌, arith}
+use Rattle.std.specs.Prelude.{◌≡◌, refl, true, ◌&&◌, List, [], ◌∷◌, ◌++◌, map, ℕ, ◌-◌, ◌≤◌, length, take, drop, Ok}
+use Rattle.std.proofs.Common.{ap, ap₂, sym, ◌∙◌, arith, take_at}
 use Rattle.std.proofs.lemmas.Bool.{and_parts, and_from}
 use Rattle.std.proofs.lemmas.List.{length-map}
 use Rattle.std.proofs.Math.Bool.{and-true}
-use Rattle.std.proofs.Math.Seq.{take-append_seam, drop-append_seam}
 use Rattle.rules.specs.Limits.{max_jobs, max_resources}
 use Rattle.rules.specs.Choice.{first_bad}
 use Rattle.rules.specs.Counting.{every}
 use Rattle.rules.specs.Table as R
 use Rattle.rules.specs.Table.{job_good, values_good, stack_good, table_checks, table_refusal}
-use Rattle.rules.proofs.Choices.{stopped}
-use Rattle.rules.proofs.Counts.{none_above-length}
-use Rattle.rules.proofs.Tables.{good_table}
+use Rattle.rules.proofs.Counts.{every_replicate, none_above-length}
+use Rattle.rules.proofs.Tables.{Writable, writable, unrefused, good_table}
 use Rattle.table.specs.declared.Table.{Table}
-use Rattle.table.specs.Arrays.{padded, table_of, job_arrays, job_of_zeros, arrays_of, Shaped}
-use Rattle.table.specs.Judging.{is_zero, needs_blank, job_blank, blank, counts_fit, values_fit, table_judged}
+use Rattle.table.specs.Arrays.{table_of, job_arrays, job_of_zeros, arrays_of, Shaped}
+use Rattle.table.specs.Judging.{is_zero, needs_blank, job_blank, blank, counts_fit, table_judged}
+use Rattle.table.proofs.Fit.{fit}
+use Rattle.table.proofs.Padded.{every_padded}
 use Rattle.table.proofs.Back.{arrays_back, table_back}
 use Rattle.field.specs.Laws.{Bytes}
 use Rattle.field.proofs.Stores.{sets_over}
 use Rattle.tagged_table.specs.Form.{table_bytes, took, table_reading}
 use Rattle.tagged_table.specs.Answers.{write_answer, write_out}
-use Rattle.tagged_table.proofs.Written.{Writable, writable, unrefused}
 use Rattle.tagged_table.proofs.ReadBack.{read_written}
 use Rattle.tagged_table.proofs.WriteBack.{read_good, write_read, read_length}
 use Rattle.tagged_table.proofs.Judged.{counted, all_written}
@@ -34,39 +33,20 @@ written t out j l = sym (all_written t out j l).1 ∙ sets_over out (table_bytes
 
 -- ---- what was written, read
 
-judged_blank : (t : Table) → table_judged t ≡ 0 → (counts_fit t ≡ true) × (blank t ≡ true)
-unfolding table_judged
-judged_blank t e =
-    let s = stopped 0 (table_checks (counts_fit t) (values_fit t) (stack_good (table_of t))) e in
-    (grind arith, grind arith)
-
 -- Reading what was written hands back the arrays that were written.
 pub stored_read : (t : Table) (out : List ℕ) → Shaped t → table_judged t ≡ 0 → length (table_bytes (table_of t)) ≤ length out
     → (table_reading (write_out t out) ≡ took (length (table_bytes (table_of t))) (table_of t)) × (arrays_of (table_of t) ≡ t)
 stored_read t out s j l =
-    let w : Writable (table_of t) = (counted t s.units_length s.jobs_length j).writable in
-    let b = judged_blank t j in (
+    let w : Writable (table_of t) = (counted t s.units_length s.jobs_length j).writable in (
       ap table_reading (written t out j l)
           ∙ read_written (table_of t) (unrefused (table_of t) w) (drop (length (table_bytes (table_of t))) out),
-      arrays_back t s b.0 b.1,
+      arrays_back t s (fit t j),
     )
 
 -- ---- what was read, written
 
-every_replicated : {A : Type 0} (p : A → Bool) (z : A) (n : ℕ) → p z ≡ true → every p (replicate n z) ≡ true
-unfolding every
-every_replicated p z zero h = refl
-every_replicated p z (suc n) h = and_from _ _ h (every_replicated p z n h)
-
--- Past what is padded stands nothing but what padding puts there.
-every_padded : {A : Type 0} (p : A → Bool) (z : A) (n k : ℕ) (xs : List A) → p z ≡ true → length xs ≡ k → every p (drop k (padded z n xs)) ≡ true
-every_padded p z n k xs h e =
-    ap (λ (i : ℕ). every p (drop i (padded z n xs))) (sym e)
-    ∙ ap (every p) (drop-append_seam xs (replicate (n - length xs) z))
-    ∙ every_replicated p z (n - length xs) h
-
 zeros_blank : job_blank job_of_zeros ≡ true
-zeros_blank = every_replicated is_zero 0 (max_resources - 0) refl
+zeros_blank = every_replicate is_zero (max_resources - 0) 0 refl
 
 listed_blank : (units : List ℕ) (js : List R.Job) → every (job_good units) js ≡ true → every (needs_blank (length units)) (map job_arrays js) ≡ true
 unfolding every
@@ -83,9 +63,7 @@ arrays_blank t w =
     and_from _ _
     (and_from _ _
     (every_padded is_zero 0 max_resources (length t.units) t.units refl refl)
-    (ap (λ (i : ℕ). every (needs_blank (length t.units)) (take i (padded job_of_zeros max_jobs js))) (sym n)
-    ∙ ap (every (needs_blank (length t.units))) (take-append_seam js _)
-    ∙ listed_blank t.units t.jobs w.jobs))
+    (ap (every (needs_blank (length t.units))) (take_at js _ (length t.jobs) n) ∙ listed_blank t.units t.jobs w.jobs))
     (every_padded job_blank job_of_zeros max_jobs (length t.jobs) js zeros_blank n)
 
 -- The arrays of a table that could be written could be written, and hold that table.

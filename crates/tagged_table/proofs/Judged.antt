@@ -6,6 +6,7 @@ use Rattle.std.proofs.lemmas.List.Edits.{sets}
 use Rattle.rules.specs.Limits.{max_jobs, max_resources}
 use Rattle.rules.specs.Table as R
 use Rattle.rules.specs.Table.{stack_good, table_checks}
+use Rattle.rules.proofs.Tables.{Writable, writable}
 use Rattle.table.specs.declared.Table.{Table}
 use Rattle.table.specs.Arrays.{table_of}
 use Rattle.table.specs.Judging.{table_judged}
@@ -14,12 +15,8 @@ use Rattle.field.specs.Field.{two, field}
 use Rattle.field.proofs.Stores.{sets_next, sets_over}
 use Rattle.tagged_table.specs.Answers.{write_judged, write_answer, write_out}
 use Rattle.tagged_table.specs.Form.{version, each, resource_bytes, job_bytes, table_bytes}
-use Rattle.tagged_table.proofs.Written.{Writable, writable}
+use Rattle.tagged_table.proofs.Lengths.{resources-length}
 use Rattle.tagged_table.proofs.Longest.{table-length}
-
-resources-length : (us : List ℕ) → length (each resource_bytes us) ≡ 5 * length us
-resources-length [] = refl
-resources-length (u ∷ us) = omega (arith, resources-length us)
 
 pub record Counted (t : Table) : Type 0 where
   pub few : t.resource_count ≤ max_resources
@@ -34,7 +31,7 @@ counted t u j e =
       few = f.few_resources;
       resources = resources_listed t f u;
       jobs = jobs_listed t f j;
-      writable = writable (table_of t) (fit_written t e u j);
+      writable = writable (table_of t) (fit_written t e j);
     }
 
 sum_moved : (a b : ℕ) → 12 + a + b ≡ 12 + (a + b)

@@ -1,20 +1,18 @@
 -- What the walk over the fields keeps, how a field leaves it, and how it goes on: reading from here on is the whole reading, the arrays hold
 -- what has been read so far, and that is in range. Each exit is the field's first bad test, by the lemmas on what the code's parts answer.
-use Rattle.std.specs.Prelude.{◌≡◌, refl, Bool, true, false, List, ℕ, suc, ◌+◌, ◌≤◌, ◌<◌, length, drop, Result, Ok, Err, OnOk, Some, None}
+use Rattle.std.specs.Prelude.{◌≡◌, refl, Bool, true, false, List, ℕ, suc, ◌+◌, ◌≤◌, length, drop, Result, Ok, Err, OnOk, Some, None}
 use Rattle.std.proofs.Common.{sym, ap, ap₂, ◌∙◌, zero-le, arith}
-use Rattle.std.proofs.lemmas.Bool.{and_parts}
 use Rattle.std.proofs.Math.Seq.{drop-drop}
 use Rattle.rules.specs.Choice.{pick}
-use Rattle.rules.specs.Counting.{every}
 use Rattle.rules.specs.Table as R
 use Rattle.rules.specs.Table.{job_good, stack_good}
-use Rattle.rules.proofs.Counts.{every_at, none_above-length}
-use Rattle.table.proofs.Back.{table_back}
+use Rattle.rules.proofs.Tables.{need_count}
 use Rattle.table.specs.declared.Table.{Table}
 use Rattle.table.specs.declared.RefusedAt.{RefusedAt}
 use Rattle.table.specs.declared.Refusal.TheVariants.{StackTooSmall}
 use Rattle.table.specs.Arrays.{table_of, arrays_of, table_of_zeros}
 use Rattle.table.specs.Refusals.{refused_at, numbers_of}
+use Rattle.table.proofs.Back.{table_back}
 use Rattle.field.specs.Field.{tag_of, length_of, framed}
 use Rattle.field.specs.Parts.{head_at, value_at}
 use Rattle.field.proofs.Walk.{HeadIs, head_short, not_here, not_long, not_whole, is_whole, value_within}
@@ -62,10 +60,6 @@ ends_on_ok s new k x = go (stack_good (table_of new)) x.table
         → OnOk {E = RefusedAt} (pick g (Ok k) (Err (record { refusal = StackTooSmall; place = k }))) (new ≡ arrays_of (table_in (table_reading s)))
     go true h = h refl
     go false h = tt
-
--- The jobs that are in range have as many needs as there are units.
-full : (t : R.Table) → every (job_good t.units) t.jobs ≡ true → (j : ℕ) → j < R.job_count t → length (R.job_of t j).needs ≡ R.resource_count t
-full t h j l = none_above-length t.units (R.job_of t j).needs (and_parts _ _ (every_at (job_good t.units) t.jobs h j R.no_job l)).1
 
 same_err : (d e : RefusedAt) → ◌≡◌ {A = Result (Unit {0}) RefusedAt} (Err d) (Err e) → d ≡ e
 same_err d e h = grind arith
@@ -138,7 +132,7 @@ module _ (s : List ℕ) (t : Table) (last at : ℕ) (l : Left s t last at) where
           stop_end r e =
               let g = stored r in
               let back : table_of new ≡ l.p.table =
-              ap table_of (g.1 ∙ ap (λ (j : ℕ). arrays_of (grown l.p j (drop k s)).table) e) ∙ table_back l.p.table (full l.p.table l.kept.jobs) in
+              ap table_of (g.1 ∙ ap (λ (j : ℕ). arrays_of (grown l.p j (drop k s)).table) e) ∙ table_back l.p.table (need_count l.p.table l.kept.jobs) in
               let read : table_reading s ≡ ended l.p k =
               sym l.same
               ∙ from_end l.p (drop at s) at (value_judged l.p (drop at s) true it.0 (good_is true g.0)) (i.tag ∙ e)

@@ -2,7 +2,7 @@
 pub mod Examples
 pub mod Outcome
 pub mod Walk
-pub mod Written
+pub mod Lengths
 pub mod Longest
 pub mod ReadBack
 pub mod Ends

@@ -2,7 +2,7 @@
 -- A table's length is the sum of its fields' lengths, each is the length that its tag wants, and the limits say how many there may be.
 use Rattle.std.specs.Prelude.{◌≡◌, refl, Bool, true, List, [], ◌∷◌, ℕ, zero, suc, ◌+◌, ◌*◌, ◌≤◌, ◌<◌, length, replicate, eqb}
 use Rattle.std.proofs.Common.{ap, arith, zero-le, le_refl, ◌∙◌, length-append, le-leb}
-use Rattle.std.proofs.lemmas.Bool.{and_parts, and_from}
+use Rattle.std.proofs.lemmas.Bool.{and_parts}
 use Rattle.std.proofs.lemmas.Bool.Decides.{nat_tests}
 use Rattle.std.proofs.lemmas.List.{length-replicate, get_or-replicate}
 use Rattle.std.proofs.Math.Nat.{mul-suc, mul-le-mul}
@@ -10,9 +10,10 @@ use Rattle.rules.specs.Limits.{max_jobs, max_resources, max_units, max_level, ma
 use Rattle.rules.specs.Counting.{sum_below, within, every}
 use Rattle.rules.specs.Table.{Job, Table, job_count, resource_count, no_job, room_of, level_of, job_good, largest_at, worst, table_refusal}
 use Rattle.rules.proofs.Choices.{pick_case}
-use Rattle.rules.proofs.Counts.{max_below_le, none_above-length, none_above_zeros}
+use Rattle.rules.proofs.Counts.{max_below_le, every_replicate, none_above-length, none_above_zeros}
+use Rattle.rules.proofs.Tables.{Writable, writable, unrefused}
 use Rattle.tagged_table.specs.Form.{each, resource_bytes, job_bytes, table_bytes}
-use Rattle.tagged_table.proofs.Written.{pairs-length, Writable, writable, unrefused}
+use Rattle.tagged_table.proofs.Lengths.{resources-length, pairs-length}
 
 -- ---- the length of a table
 
@@ -30,8 +31,7 @@ job-length units j g = omega (arith, pairs-length j.needs, none_above-length uni
 
 pub table-length : (t : Table) → Writable t → length (table_bytes t) ≡ 12 + (5 * resource_count t + (6 + 2 * resource_count t) * job_count t)
 table-length t w =
-    let a : length (each resource_bytes t.units) ≡ 5 * resource_count t =
-    each-length resource_bytes (within 1 max_units) 5 (λ u g. refl) t.units w.units in
+    let a : length (each resource_bytes t.units) ≡ 5 * resource_count t = resources-length t.units in
     let b : length (each job_bytes t.jobs) ≡ (6 + 2 * resource_count t) * job_count t =
     each-length job_bytes (job_good t.units) (6 + 2 * resource_count t) (job-length t.units) t.jobs w.jobs in
     simp length-append (omega arith)
@@ -55,11 +55,6 @@ pub longest_now : 4 + 5 + 5 * max_resources + (6 + 2 * max_resources) * max_jobs
 longest_now = refl
 
 -- ---- one table is as long
-
-every_replicate : {A : Type 0} (f : A → Bool) (n : ℕ) (x : A) → f x ≡ true → every f (replicate n x) ≡ true
-unfolding every
-every_replicate f zero x h = refl
-every_replicate f (suc n) x h = and_from _ _ h (every_replicate f n x h)
 
 sum_below_le : (n : ℕ) (f : ℕ → ℕ) → ((i : ℕ) → f i ≤ 1) → sum_below n f ≤ n
 unfolding sum_below

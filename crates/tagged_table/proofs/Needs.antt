@@ -1,30 +1,22 @@
 -- A job's needs, read one by one into its array: the need at a place is a number in two bytes of the value, one more need is one more place
 -- of the array, and the needs that are left are within the units or not as their first is.
-use Rattle.std.specs.Prelude.{◌≡◌, refl, true, false, ◌&&◌, List, [], ◌∷◌, ◌++◌, ℕ, zero, suc, ◌+◌, ◌-◌, ◌*◌, ◌≤◌, ◌<◌, length, get_or, set, take, drop, replicate, leb, Ok, Err}
-use Rattle.std.proofs.Common.{sym, ap, ap₂, ◌∙◌, arith, append_assoc, length-append, drop_of_length-le}
+use Rattle.std.specs.Prelude.{◌≡◌, refl, true, false, ◌&&◌, List, ℕ, zero, suc, ◌+◌, ◌*◌, ◌≤◌, ◌<◌, length, get_or, set, take, drop, leb, Ok, Err}
+use Rattle.std.proofs.Common.{sym, ap, ap₂, ◌∙◌, arith, drop_of_length-le}
 use Rattle.std.proofs.lemmas.Bool.Decides.{nat_tests}
 use Rattle.std.proofs.lemmas.List.{take_more, drop_more}
-use Rattle.std.proofs.Math.Seq.{set-append_seam, length-take-le}
+use Rattle.std.proofs.Math.Seq.{length-take-le}
 use Rattle.rules.specs.Limits.{max_resources, max_level, max_bytes}
 use Rattle.rules.specs.Counting.{none_above}
 use Rattle.rules.specs.Table.{job_good}
 use Rattle.table.specs.Arrays.{padded}
-use Rattle.field.specs.Field.{pair_at}
-use Rattle.field.proofs.Numbers.{pair-drop}
 use Rattle.table.specs.declared.Level.{Level}
 use Rattle.table.specs.declared.Job.{Job}
 use Rattle.table.specs.declared.Refusal.TheVariants.{ValueOutOfRange}
+use Rattle.table.proofs.Padded.{padded_put}
+use Rattle.field.specs.Field.{pair_at}
+use Rattle.field.proofs.Numbers.{pair-drop}
 use Rattle.tagged_table.specs.Form.{pairs, job_read}
 use Rattle.tagged_table.specs.Parts.{job_answer}
-
--- ---- one more element of an array
-
-pub padded_put : {A : Type 0} (z : A) (n : ℕ) (xs : List A) (x : A) → length xs < n → set (padded z n xs) (length xs) x ≡ padded z n (xs ++ x ∷ [])
-padded_put z n xs x h =
-    let e : n - length xs ≡ suc (n - length (xs ++ x ∷ [])) = simp length-append (omega arith) in
-    ap (λ (k : ℕ). set (xs ++ replicate k z) (length xs) x) e
-    ∙ set-append_seam xs z (replicate (n - length (xs ++ x ∷ [])) z) x
-    ∙ sym (append_assoc xs (x ∷ []) (replicate (n - length (xs ++ x ∷ [])) z))
 
 -- ---- the needs in a value
 
@@ -39,7 +31,7 @@ pair_of (suc n) v (suc r) h =
     let e : 2 + 2 * r ≡ 2 * suc r = omega arith in
     pair_of n (drop 2 v) r (omega arith) ∙ pair-drop 2 v (2 * r) ∙ ap (pair_at v) e
 
-pub need_at : (v : List ℕ) (m r : ℕ) → r < m → get_or (pairs m (drop 3 v)) r 0 ≡ pair_at v (3 + 2 * r)
+need_at : (v : List ℕ) (m r : ℕ) → r < m → get_or (pairs m (drop 3 v)) r 0 ≡ pair_at v (3 + 2 * r)
 need_at v m r h = pair_of m (drop 3 v) r h ∙ pair-drop 3 v (2 * r)
 
 -- ---- the needs within the units
@@ -62,7 +54,7 @@ none_left us ns r h k = rw (drop_of_length-le us h, drop_of_length-le ns k) refl
 
 -- ---- the whole job
 
-pub needs_decide : (units v : List ℕ) (l f : ℕ) → l ≡ get_or v 0 0 → f ≡ pair_at v 1 → 0 < l → l ≤ max_level → 0 < f → f ≤ max_bytes
+needs_decide : (units v : List ℕ) (l f : ℕ) → l ≡ get_or v 0 0 → f ≡ pair_at v 1 → 0 < l → l ≤ max_level → 0 < f → f ≤ max_bytes
     → job_good units (job_read (length units) v) ≡ none_above units (pairs (length units) (drop 3 v))
 needs_decide units v l f p q a b c d = grind (arith, nat_tests)
 

@@ -9,7 +9,7 @@ use Rattle.table.specs.Arrays.{job_in}
 use Rattle.field.specs.Field.{two}
 use Rattle.field.proofs.Stores.{sets_next}
 use Rattle.tagged_table.specs.Form.{each, job_bytes}
-use Rattle.tagged_table.proofs.Written.{pairs-length}
+use Rattle.tagged_table.proofs.Lengths.{pairs-length}
 
 pub job_length : (job : Job) (m : ℕ) → length (take m job.needs) ≡ m → length (job_bytes (job_in m job)) ≡ 6 + 2 * m
 job_length job m h = omega (arith, pairs-length (take m job.needs), h)

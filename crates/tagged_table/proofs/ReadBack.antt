@@ -9,6 +9,7 @@ use Rattle.rules.specs.Limits.{max_jobs, max_resources, max_units, max_bytes}
 use Rattle.rules.specs.Counting.{within, every}
 use Rattle.rules.specs.Table.{Job, Table, job_good, stack_good, table_refusal}
 use Rattle.rules.proofs.Counts.{none_above-length}
+use Rattle.rules.proofs.Tables.{Writable, writable}
 use Rattle.table.specs.Refusals.{refused_at}
 use Rattle.field.specs.Field.{two, field}
 use Rattle.field.specs.Laws.{two-pair}
@@ -16,7 +17,7 @@ use Rattle.field.proofs.Framed.{written_length, written_rest, written_framed}
 use Rattle.tagged_table.specs.Form.{version, each, resource_bytes, job_bytes, fields_bytes, table_bytes, pairs, job_read, took, ended, table_reading}
 use Rattle.tagged_table.specs.Form.{Sofar, nothing, stands, wants, good, grown, judged}
 use Rattle.tagged_table.proofs.Walk.{reading_from, from_end, from_next, whole}
-use Rattle.tagged_table.proofs.Written.{job_value, pairs-length, Writable, writable}
+use Rattle.tagged_table.proofs.Lengths.{job_value, pairs-length}
 
 -- ---- bytes that are read
 

@@ -1,8 +1,8 @@
 -- What storing a field's value leaves, tag by tag: the arrays that held what had been read hold what is known after the field.
 -- A number more is one more place of its array (`padded_put`), and the field's tag makes `good` and `grown` compute.
-use Rattle.std.specs.Prelude.{◌≡◌, refl, ◌⊎◌, Bool, true, false, map, List, [], ◌∷◌, ◌++◌, ℕ, ◌+◌, ◌≤◌, ◌<◌, length, get_or, set, take, Result, Ok, Err}
-use Rattle.std.proofs.Common.{sym, ap, ap₂, subst, ◌∙◌, true≢false, arith, length-append}
-use Rattle.std.proofs.lemmas.List.{length-map, map-append}
+use Rattle.std.specs.Prelude.{◌≡◌, refl, ◌⊎◌, Bool, true, false, map, List, [], ◌∷◌, ℕ, ◌+◌, ◌≤◌, ◌<◌, length, get_or, set, take, Result, Ok, Err}
+use Rattle.std.proofs.Common.{sym, ap, ap₂, subst, ◌∙◌, true≢false, arith}
+use Rattle.std.proofs.lemmas.List.{length-map, length_push, map-append}
 use Rattle.std.proofs.Math.Seq.{take-append_seam}
 use Rattle.std.proofs.lemmas.Bool.Decides.{nat_tests}
 use Rattle.rules.specs.Choice.{pick}
@@ -14,13 +14,10 @@ use Rattle.table.specs.declared.Table.{Table}
 use Rattle.table.specs.declared.RefusedAt.{RefusedAt}
 use Rattle.table.specs.declared.Refusal.TheVariants.{ValueOutOfRange}
 use Rattle.table.specs.Arrays.{padded, job_arrays, job_of_zeros, arrays_of}
+use Rattle.table.proofs.Padded.{padded_put}
 use Rattle.field.specs.Field.{pair_at}
 use Rattle.tagged_table.specs.Form.{Sofar, good, grown, job_read, with_units, with_job}
 use Rattle.tagged_table.specs.Parts.{job_answer, Stores}
-use Rattle.tagged_table.proofs.Needs.{padded_put}
-
-one_more : {A : Type 0} (xs : List A) (x : A) → length xs + 1 ≡ length (xs ++ x ∷ [])
-one_more xs x = simp length-append (omega arith)
 
 -- a job that was answered is one in range, and the job of the value
 answered : (b : Bool) (x y : Job) (e : RefusedAt) → Ok y ≡ pick b (Ok x) (Err e) → (b ≡ true) × (y ≡ x)
@@ -42,13 +39,13 @@ jobs_more t j h =
     (ap (λ (i : ℕ). set (padded job_of_zeros max_jobs js) i (job_arrays j)) (sym n)
     ∙ padded_put job_of_zeros max_jobs js (job_arrays j) (omega arith)
     ∙ ap (padded job_of_zeros max_jobs) (sym (map-append job_arrays t.jobs (j ∷ []))))
-    (one_more t.jobs j)
+    (sym (length_push t.jobs j))
 
 module _ (old : Table) (v : List ℕ) (place : ℕ) where
   abbrev refused : Result (Unit {0}) RefusedAt
   refused = Err (record { refusal = ValueOutOfRange; place = place })
 
-  pub none_stored : (new : Table) (tag : ℕ) → ((p : Sofar) → old ≡ arrays_of p.table → good p tag v ≡ false) → Stores old new tag v place refused
+  none_stored : (new : Table) (tag : ℕ) → ((p : Sofar) → old ≡ arrays_of p.table → good p tag v ≡ false) → Stores old new tag v place refused
   none_stored new tag h =
       record {
         out_of_range = λ p e g. refl;
@@ -96,7 +93,7 @@ module _ (old : Table) (v : List ℕ) (place : ℕ) where
         let few : length p.table.units < max_resources = subst (λ (t : Table). t.resource_count < max_resources) e l in
             ap (λ (t : Table). record { size = t.size; units = set t.units t.resource_count n; resource_count = t.resource_count + 1; jobs = t.jobs; job_count = t.job_count }) e
             ∙ ap₂ (λ (us : List ℕ) (k : ℕ). record { size = p.table.size; units = us; resource_count = k; jobs = (arrays_of p.table).jobs; job_count = length p.table.jobs })
-            (padded_put 0 max_resources p.table.units n few) (one_more p.table.units n)
+            (padded_put 0 max_resources p.table.units n few) (sym (length_push p.table.units n))
             ∙ ap (λ (k : ℕ). arrays_of (with_units p.table k)) q,
       )))
 

@@ -5,7 +5,7 @@ use Rattle.std.proofs.Common.{ap, ◌∙◌, arith, length-drop, ne_eqb}
 use Rattle.rules.specs.Choice.{pick}
 use Rattle.table.specs.Refusals.{refused_at, or_refused}
 use Rattle.field.specs.Field.{tag_of, length_of, framed}
-use Rattle.field.proofs.Framed.{Framed, is_framed, framed_is}
+use Rattle.field.proofs.Framed.{Framed, is_framed}
 use Rattle.tagged_table.specs.Form.{Sofar, nothing, stands, wants, good, grown, or_else, judged, Reading, ended, step, read_fields, table_reading}
 
 -- ---- a good field
@@ -27,10 +27,6 @@ module _ (p : Sofar) (b : List ℕ) where
   pub judged_good : judged p b ≡ 0 → good p (tag_of b) (drop 3 b) ≡ true
   unfolding judged
   judged_good e = (both_zero (framed (stands p) (wants p) b) (good p (tag_of b) (drop 3 b)) e).1
-
-  pub good_judged : FramedAt p b → good p (tag_of b) (drop 3 b) ≡ true → judged p b ≡ 0
-  unfolding judged
-  good_judged k g = simp (framed_is (stands p) (wants p) b k, g)
 
 -- ---- reading from a place on
 
@@ -66,7 +62,7 @@ enough (suc f) (suc g) p b at h k =
     step_same p b at (read_fields f) (read_fields g)
     (λ l. enough f g (grown_by p b) (left_behind b) (at + (3 + length_of b)) (simp length-drop (omega arith)) (simp length-drop (omega arith)))
 
-pub unroll : (p : Sofar) (b : List ℕ) (at : ℕ) → reading_from p b at ≡ step p b at reading_from
+unroll : (p : Sofar) (b : List ℕ) (at : ℕ) → reading_from p b at ≡ step p b at reading_from
 unfolding reading_from read_fields
 unroll p b at =
     step_same p b at (read_fields (length b)) reading_from

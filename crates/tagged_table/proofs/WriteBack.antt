@@ -1,15 +1,15 @@
 -- What was read is written as it was, and could be written: the bytes of the table that was read are the bytes that reading took.
 -- What has been read so far, written again, is the bytes before the place, and each value in it is in range; each good field keeps that.
-use Rattle.std.specs.Prelude.{◌≡◌, refl, Bool, true, List, [], ◌∷◌, ◌++◌, ℕ, zero, suc, ◌+◌, ◌*◌, ◌≤◌, ◌<◌}
-use Rattle.std.specs.Prelude.{length, take, drop, ltb}
-use Rattle.std.proofs.Common.{ap, ap₂, sym, subst, ◌∙◌, arith, append_assoc, append-nil, length-append, length-drop, take-add, length-take-le}
-use Rattle.std.proofs.Common.{lt-ltb, le-ltb, eqb-true}
-use Rattle.std.proofs.lemmas.Bool.{and_parts, and_from}
+use Rattle.std.specs.Prelude.{◌≡◌, refl, true, List, [], ◌∷◌, ◌++◌, ℕ, zero, suc, ◌+◌, ◌*◌, ◌≤◌, ◌<◌, length, take, drop, ltb}
+use Rattle.std.proofs.Common.{ap, ap₂, sym, subst, ◌∙◌, arith, append_assoc, append-nil, length-append, length-drop, take-add, length-take-le, lt-ltb, le-ltb, eqb-true}
+use Rattle.std.proofs.lemmas.Bool.{and_from}
 use Rattle.std.proofs.lemmas.Bool.Decides.{nat_tests}
 use Rattle.rules.specs.Choice.{pick}
 use Rattle.rules.specs.Limits.{max_jobs, max_resources, max_units, max_bytes}
 use Rattle.rules.specs.Counting.{within, every}
 use Rattle.rules.specs.Table.{Job, Table, job_good, table_refusal}
+use Rattle.rules.proofs.Counts.{every_last}
+use Rattle.rules.proofs.Tables.{unrefused}
 use Rattle.field.specs.Field.{two, pair_at, field, tag_of, length_of}
 use Rattle.field.specs.Laws.{Bytes, pair-two, one_back, two_back}
 use Rattle.field.proofs.Numbers.{bytes_drop}
@@ -17,15 +17,10 @@ use Rattle.field.proofs.Framed.{field_back}
 use Rattle.tagged_table.specs.Form.{version, each, resource_bytes, job_bytes, fields_bytes, table_bytes, pairs, job_read, with_units, with_job}
 use Rattle.tagged_table.specs.Form.{Sofar, nothing, wants, good, grown, judged, took, table_reading}
 use Rattle.tagged_table.proofs.Walk.{judged_framed, judged_good, grown_by}
-use Rattle.tagged_table.proofs.Written.{unrefused, job_value}
+use Rattle.tagged_table.proofs.Lengths.{job_value}
 use Rattle.tagged_table.proofs.Ends.{Stands, at_version, at_size, at_resource, at_job, at_end, is_standing, KeptOn, end_field, read_within}
 
 -- ---- what is read could be written
-
-every_last : {A : Type 0} (f : A → Bool) (xs : List A) (x : A) → every f xs ≡ true → f x ≡ true → every f (xs ++ x ∷ []) ≡ true
-unfolding every
-every_last f [] x h g = grind arith
-every_last f (y ∷ ys) x h g = and_from _ _ (and_parts _ _ h).0 (every_last f ys x (and_parts _ _ h).1 g)
 
 -- What has been read so far is in range.
 pub record InRange (p : Sofar) : Type 0 where
@@ -73,7 +68,7 @@ module _ (p : Sofar) (v : List ℕ) (k : InRange p) where
   grown_in_range (at_resource e f m) g n = record {
     size = λ h. k.size e;
     few = simp length-append (omega arith);
-    units = every_last (within 1 max_units) p.table.units (pair_at v 0) k.units g;
+    units = every_last _ p.table.units (pair_at v 0) ∙ and_from _ _ k.units g;
     no_jobs = λ h. k.no_jobs (omega arith);
     some = λ h. absurd (omega arith);
     room = k.room;
@@ -86,7 +81,7 @@ module _ (p : Sofar) (v : List ℕ) (k : InRange p) where
     no_jobs = λ h. absurd (omega arith);
     some = λ h. simp length-append (omega arith);
     room = simp length-append (omega arith);
-    jobs = every_last (job_good p.table.units) p.table.jobs (job_read (length p.table.units) v) k.jobs g;
+    jobs = every_last _ p.table.jobs (job_read (length p.table.units) v) ∙ and_from _ _ k.jobs g;
   }
   grown_in_range (at_end e) g n = absurd (n refl)
 

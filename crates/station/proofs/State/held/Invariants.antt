@@ -2,8 +2,8 @@
 use Rattle.std.proofs.Common.{◌≡◌, ℕ, ◌*◌, ◌^◌, ◌<◌, ◌≤◌, length, get_or}
 use Rattle.rules.specs.Limits.{max_resources}
 use Rattle.rules.specs.State.{held_in}
-use Rattle.table.specs.Arrays.{table_of}
 use Rattle.rules.specs.Table.{resource_count}
+use Rattle.table.specs.Arrays.{table_of}
 use Rattle.station.proofs.View.{stack_up}
 use Rattle.station.proofs.State.held.Given as goal
 

@@ -1,6 +1,6 @@
 -- The lemma of Changes: the last place that is counted, with other units of one resource.
 use Rattle.std.proofs.Common.{◌-◌, arith}
-use Rattle.station.proofs.Back.{formed}
+use Rattle.station.proofs.Parts.{formed}
 use Rattle.station.proofs.Changes.{hold_moved}
 use Rattle.station.proofs.State.hold.Goals as goal
 

@@ -1,6 +1,6 @@
 -- The lemma of Changes: the last place that is counted, with nothing held. The length of the units is known from their type.
 use Rattle.std.proofs.Common.{◌-◌, arith, rules}
-use Rattle.station.proofs.Back.{formed}
+use Rattle.station.proofs.Parts.{formed}
 use Rattle.station.proofs.Changes.{nothing_moved}
 use Rattle.station.proofs.State.hold_nothing.Goals as goal
 

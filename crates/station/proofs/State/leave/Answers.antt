@@ -1,6 +1,6 @@
 -- The lemma of Changes: the running job leaves the last place that is counted.
 use Rattle.std.proofs.Common.{◌-◌, arith}
-use Rattle.station.proofs.Back.{formed}
+use Rattle.station.proofs.Parts.{formed}
 use Rattle.station.proofs.Changes.{left}
 use Rattle.station.proofs.State.leave.Goals as goal
 

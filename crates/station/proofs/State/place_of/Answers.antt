@@ -2,7 +2,7 @@
 use Rattle.std.proofs.Common.{arith, sym, ◌∙◌}
 use Rattle.table.specs.Arrays.{table_of}
 use Rattle.station.specs.Arrays.{entry_of}
-use Rattle.station.proofs.Changes.{sooner_test, passed, found, passed_all}
+use Rattle.station.proofs.Entering.{sooner_test, passed, found, passed_all}
 use Rattle.station.proofs.State.place_of.Goals as goal
 
 pub loop-other-preserved : goal.loop-other-preserved

@@ -5,7 +5,7 @@ use Rattle.rules.specs.Events.{release, refusal}
 use Rattle.table.specs.Arrays.{table_of}
 use Rattle.table.specs.Refusals.{number_of}
 use Rattle.station.specs.Arrays.{state_of}
-use Rattle.station.proofs.Refusing.{running_refuses, amount_listed, listed_fits}
+use Rattle.station.proofs.Refusing.{running_refuses, amount_fits}
 use Rattle.station.proofs.State.release.Goals as goal
 
 pub returns-in_err-running-clause-answer : goal.returns-in_err-running-clause-answer
@@ -17,7 +17,4 @@ returns-in_err-running-clause-answer c =
     grind arith
 
 pub bounds-running-resource : goal.bounds-running-resource
-bounds-running-resource c =
-    let s = c.args.self.now in
-    let l = amount_listed (table_of s.table) c.args.resource c.args.amount (grind arith) in
-    listed_fits s c.from-resource.result c.requires (grind arith)
+bounds-running-resource c = rw c.from-resource.ensures (amount_fits c.args.self.now c.args.resource c.args.amount c.requires (grind arith))

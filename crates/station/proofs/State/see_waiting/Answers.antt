@@ -1,10 +1,7 @@
 -- One job more, one that is there twice, and the end of the walk.
-use Rattle.std.specs.Prelude.{take}
 use Rattle.std.proofs.Common.{sym, ◌∙◌, rules}
-use Rattle.rules.specs.State.{started_jobs}
-use Rattle.station.specs.Arrays.{state_of}
 use Rattle.station.proofs.Formed.{few_waiting}
-use Rattle.station.proofs.Once.{seen_before, seen_more, seen_twice, seen_all, once_waiting}
+use Rattle.station.proofs.Once.{seen_before, seen_more, waiting_twice, waiting_all}
 use Rattle.station.proofs.State.see_waiting.Goals as goal
 
 pub loop-job-init : goal.loop-job-init
@@ -15,30 +12,15 @@ see-requires c = few_waiting c.args.self.now c.requires.fits c.requires.listed _
 
 pub loop-job-preserved : goal.loop-job-preserved
 loop-job-preserved c =
-    let s = c.args.self.now in
-    let xs = c.waiting_jobs-job-items.result.now in
-    let few = few_waiting s c.requires.fits c.requires.listed xs c.waiting_jobs-job-items.ensures in
-    let l = c.loop-job in
     rw c.see.ensures.marked
-    (seen_more (λ j. j.0) xs (started_jobs (state_of s).stack) few l.job-index _ l.seen c.loop-job-test.true (search rules) l.invariant
-    (sym c.see.ensures.first ∙ c.if-not-see.false))
+    (seen_more (λ j. j.0) _ _ (few_waiting c.args.self.now c.requires.fits c.requires.listed _ c.waiting_jobs-job-items.ensures) _ _ c.loop-job.seen
+    c.loop-job-test.true (search rules) c.loop-job.invariant (sym c.see.ensures.first ∙ c.if-not-see.false))
 
 pub returns-then-not-see : goal.returns-then-not-see
 returns-then-not-see c =
-    let s = c.args.self.now in
-    let xs = c.waiting_jobs-job-items.result.now in
-    let few = few_waiting s c.requires.fits c.requires.listed xs c.waiting_jobs-job-items.ensures in
-    let l = c.loop-job in
-    let js = started_jobs (state_of s).stack in
-    sym (sym (once_waiting js xs (take s.waiting_count s.waiting) c.waiting_jobs-job-items.ensures)
-    ∙ seen_twice (λ j. j.0) xs js few l.job-index _ l.seen c.loop-job-test.true l.invariant (sym c.see.ensures.first ∙ c.if-not-see.true))
+    sym (waiting_twice c.args.self.now c.requires.fits c.requires.listed _ c.waiting_jobs-job-items.ensures _ _ c.loop-job.seen
+    c.loop-job-test.true c.loop-job.invariant (sym c.see.ensures.first ∙ c.if-not-see.true))
 
 pub returns : goal.returns
 returns c =
-    let s = c.args.self.now in
-    let xs = c.waiting_jobs-job-items.result.now in
-    let few = few_waiting s c.requires.fits c.requires.listed xs c.waiting_jobs-job-items.ensures in
-    let l = c.loop-job in
-    let js = started_jobs (state_of s).stack in
-    sym (sym (once_waiting js xs (take s.waiting_count s.waiting) c.waiting_jobs-job-items.ensures)
-    ∙ (seen_all (λ j. j.0) xs js few l.job-index l.seen c.loop-job-test.false l.invariant).1)
+    sym (waiting_all c.args.self.now c.requires.fits c.requires.listed _ c.waiting_jobs-job-items.ensures _ _ c.loop-job-test.false c.loop-job.invariant)

@@ -1,14 +1,10 @@
--- The start test, by whether the head starts: nobody waits, its level is not above the ceiling, or it starts and its frame is cleared.
-use Rattle.std.specs.Prelude.{◌≡◌, refl, true, false, List, ◌∷◌, map, drop, ℕ, ◌+◌, ◌≤◌, length}
-use Rattle.std.proofs.Common.{ap, sym, ◌∙◌, arith, rules, option_copied}
-use Rattle.std.proofs.lemmas.Bool.Decides.{nat_tests}
-use Rattle.rules.specs.Choice.{pick}
-use Rattle.rules.specs.Start.{starts, start_test}
-use Rattle.rules.specs.Ceilings.{system_ceiling}
-use Rattle.rules.specs.State as R
+-- The start test, by whether the head starts: nobody waits, its level is not above the ceiling, or it starts.
+use Rattle.std.specs.Prelude.{◌≡◌, refl, false, map}
+use Rattle.std.proofs.Common.{ap, sym, ◌∙◌, arith, option_copied}
+use Rattle.rules.specs.Start.{starts}
 use Rattle.table.specs.Arrays.{table_of}
 use Rattle.station.specs.Arrays.{entry_of, state_of, arrays_of}
-use Rattle.station.proofs.Starting.{Starts, none_first, none_starts, head_waits, head_stays, head_goes, head_room, head_well, head_fits, ceiling_kept, state_kept, a_start, ceiling_left, frame_left, part_cleared}
+use Rattle.station.proofs.Starting.{Starts, none_first, none_starts, head_waits, head_stays, head_goes, head_room, ceiling_kept, state_kept, a_start, ceiling_left}
 use Rattle.station.proofs.State.start_test.Goals as goal
 
 -- ---- nobody waits
@@ -22,10 +18,7 @@ pub returns-in_default-clause-ceiling : goal.returns-in_default-clause-ceiling
 returns-in_default-clause-ceiling c = ceiling_kept _ _ _ (empty c) c.ceiling_now-ceiling.ensures
 
 pub returns-in_default-clause-state : goal.returns-in_default-clause-state
-returns-in_default-clause-state c = state_kept c.args.self.now c.requires.well_formed (empty c)
-
-pub returns-in_default-clause-memory : goal.returns-in_default-clause-memory
-returns-in_default-clause-memory c = rw (empty c) refl
+returns-in_default-clause-state c = state_kept c.args.self.now c.requires (empty c)
 
 -- ---- its level is not above the ceiling
 
@@ -42,30 +35,13 @@ pub returns-then-level-ceiling-clause-ceiling : goal.returns-then-level-ceiling-
 returns-then-level-ceiling-clause-ceiling c = ceiling_kept _ _ _ (low c) c.ceiling_now-ceiling.ensures
 
 pub returns-then-level-ceiling-clause-state : goal.returns-then-level-ceiling-clause-state
-returns-then-level-ceiling-clause-state c = state_kept c.args.self.now c.requires.well_formed (low c)
+returns-then-level-ceiling-clause-state c = state_kept c.args.self.now c.requires (low c)
 
-pub returns-then-level-ceiling-clause-memory : goal.returns-then-level-ceiling-clause-memory
-returns-then-level-ceiling-clause-memory c = rw (low c) refl
-
--- ---- it starts, and its frame ends within the memory
-
-fits : (c : goal.After-from) → c.frames-start.result + c.from.result ≤ length c.args.memory.now
-fits c =
-    let s = c.args.self.now in
-    let g =
-    head_goes s _ _ _ c.waiting_jobs.ensures c.first.ensures.value c.in-Some.is _ _ c.level_of-level.ensures c.ceiling_now-ceiling.ensures c.if-level-ceiling.false in
-    let w = head_well s c.requires.well_formed _ _ g.waits in
-    omega (arith, c.frames-start.ensures, c.from.ensures, c.frame_of.ensures, c.requires.memory, head_fits (table_of s.table) (state_of s) _ _ g.waits w g.test)
-
-pub overflow_add-start : goal.overflow_add-start
-overflow_add-start c = search (rules, fits c)
-
-pub slice_bounds-clear-end : goal.slice_bounds-clear-end
-slice_bounds-clear-end c = search (rules, fits c)
+-- ---- it starts
 
 pub start_head-requires-clause-room : goal.start_head-requires-clause-room
 start_head-requires-clause-room c =
-    head_room c.args.self.now c.requires.well_formed _ _ (head_waits c.args.self.now _ _ _ c.waiting_jobs.ensures c.first.ensures.value c.in-Some.is)
+    head_room c.args.self.now c.requires _ _ (head_waits c.args.self.now _ _ _ c.waiting_jobs.ensures c.first.ensures.value c.in-Some.is)
 
 -- ---- what it leaves
 
@@ -81,12 +57,3 @@ returns-clause-ceiling c = c.level_of-level.ensures ∙ ceiling_left _ (state_of
 
 pub returns-clause-state : goal.returns-clause-state
 returns-clause-state c = c.start_head.ensures ∙ ap (arrays_of c.args.self.now.table) (sym (a_start _ (state_of c.args.self.now) (begun c).test))
-
-pub returns-clause-memory : goal.returns-clause-memory
-returns-clause-memory c =
-    let s = c.args.self.now in
-    let g = begun c in
-    let f = head_fits (table_of s.table) (state_of s) _ _ g.waits (head_well s c.requires.well_formed _ _ g.waits) g.test in
-    rw (← frame_left _ (state_of s) _ _ c.args.memory.now g.waits g.test, ← c.frames-start.ensures, ← c.frame_of.ensures)
-    (part_cleared c.args.memory.now c.clear.new.frame c.frames-start.result c.frame_of.result _
-    (omega (arith, c.from.ensures)) (omega (arith, f, c.frames-start.ensures, c.frame_of.ensures, c.requires.memory)) c.clear.ensures)
