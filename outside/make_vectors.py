@@ -39,7 +39,9 @@ sys.dont_write_bytecode = True
 
 import tagged_model as model
 from tagged_model import make_field, make_table, two
-from vectors import STATION, full_table, held_table, limit_tables, rewrite_or_check, sized
+from vectors import (
+    STATION, damaged, full_table, held_table, joined, limit_tables, rewrite_or_check, sized, split_fields, with_byte,
+)  # fmt: skip
 
 FOLDER = Path(__file__).resolve().parent.parent / "crates" / "tagged_vectors"
 SEED = 20261126
@@ -167,10 +169,6 @@ def flipped_reads():
             yield reads_table(with_byte(STATION_BYTES, place, STATION_BYTES[place] ^ (1 << bit)))
 
 
-def with_byte(data, place, byte):
-    return data[:place] + bytes([byte]) + data[place + 1 :]
-
-
 def states_of_reading():
     """Beginnings of tables, one for each thing that can have been read last."""
     version, size = make_field(1, b"\x01"), make_field(2, two(1000))
@@ -209,20 +207,6 @@ def tag_reads():
             yield reads_table(start + cut)
     for tag in range(256):
         yield reads_table(states_of_reading()["a job with one"] + make_field(tag, b""))
-
-
-def split_fields(data):
-    """The fields of a table that could be written, as pairs of tag and value."""
-    fields, place = [], 0
-    while place < len(data):
-        length = model.number(data[place + 1 : place + 3])
-        fields.append((data[place], data[place + 3 : place + 3 + length]))
-        place += 3 + length
-    return fields
-
-
-def joined(fields):
-    return b"".join(make_field(tag, value) for tag, value in fields)
 
 
 def length_reads():
@@ -310,23 +294,6 @@ def random_reads(rng):
         yield reads_table(rng.randbytes(rng.randint(0, 40)))
     for _ in range(80):
         yield reads_table(STATION_BYTES[: rng.choice([4, 9, 14, 22])] + rng.randbytes(rng.randint(0, 20)))
-
-
-def damaged(rng, data):
-    for _ in range(rng.choice([1, 1, 1, 2, 3])):
-        place = rng.randrange(len(data))
-        how = rng.randrange(5)
-        if how == 0:
-            data = with_byte(data, place, data[place] ^ (1 << rng.randrange(8)))
-        elif how == 1:
-            data = with_byte(data, place, rng.choice([0, 1, 2, 3, 4, 5, 255, rng.randrange(256)]))
-        elif how == 2:
-            data = data[:place] + data[place + 1 :]
-        elif how == 3:
-            data = data[:place] + rng.randbytes(1) + data[place:]
-        else:
-            data = data[: max(place, 1)]
-    return data
 
 
 # Writing tables.

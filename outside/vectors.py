@@ -1,18 +1,24 @@
 """What the makers of vectors share: tables to start from, the bytes of records, and writing or checking the two files.
 
-A vector is a triple: the kind of a record, its bytes, and the line that is expected for it.
+A vector is a triple: the kind of a record, its bytes, and the line or the lines that are expected for it.
 """
 
 import sys
 
 import tagged_model as model
-from tagged_model import make_table, two
+from tagged_model import make_field, make_table, two
 
 
 # Tables to start from.
 
 # The rules' table.
 STATION = make_table(90, [4], [(10, 40, [4]), (20, 30, [3]), (30, 20, [1])])
+
+# The rules' log.
+STATION_LOG = [
+    ("arrive", 0), ("acquire", 0, 0, 2), ("arrive", 1), ("arrive", 2), ("acquire", 2, 0, 1), ("finish", 2), ("release", 2, 0, 1),
+    ("finish", 2), ("release", 0, 0, 1), ("acquire", 1, 0, 3), ("arrive", 0),
+]  # fmt: skip
 
 
 def sized(table, above=0):
@@ -60,19 +66,67 @@ def held_table(table):
     return data
 
 
+def digest(data, value=0x811C9DC5):
+    """The 32-bit FNV-1a of some bytes, or of those that gave a value and then these."""
+    for byte in data:
+        value = ((value ^ byte) * 0x01000193) & 0xFFFFFFFF
+    return value
+
+
+# Fields, and damage.
+
+
+def split_fields(data):
+    """The fields of a table that could be written, as pairs of tag and value."""
+    fields, place = [], 0
+    while place < len(data):
+        length = model.number(data[place + 1 : place + 3])
+        fields.append((data[place], data[place + 3 : place + 3 + length]))
+        place += 3 + length
+    return fields
+
+
+def joined(fields):
+    return b"".join(make_field(tag, value) for tag, value in fields)
+
+
+def with_byte(data, place, byte):
+    return data[:place] + bytes([byte]) + data[place + 1 :]
+
+
+def damaged(rng, data):
+    for _ in range(rng.choice([1, 1, 1, 2, 3])):
+        place = rng.randrange(len(data))
+        how = rng.randrange(5)
+        if how == 0:
+            data = with_byte(data, place, data[place] ^ (1 << rng.randrange(8)))
+        elif how == 1:
+            data = with_byte(data, place, rng.choice([0, 1, 2, 3, 4, 5, 255, rng.randrange(256)]))
+        elif how == 2:
+            data = data[:place] + data[place + 1 :]
+        elif how == 3:
+            data = data[:place] + rng.randbytes(1) + data[place:]
+        else:
+            data = data[: max(place, 1)]
+    return data
+
+
 # The files.
 
 
-def rewrite_or_check(folder, vectors, print_counts):
-    """Rewrites `stdin` and `stdout` in a folder and counts the vectors; with --check, tells whether they are what the model makes."""
+def rewrite_or_check(folder, vectors, print_counts, more_files=()):
+    """Rewrites `stdin` and `stdout` in a folder, and files that are given as pairs of path and bytes, and counts the vectors; with
+    --check, tells whether they are what the model makes."""
     files = {
         folder / "stdin": b"".join(bytes([kind]) + two(len(record)) + record for kind, record, _ in vectors),
         folder / "stdout": "".join(line + "\n" for _, _, line in vectors).encode(),
+        **dict(more_files),
     }
     if "--check" in sys.argv[1:]:
-        differing = [path.name for path, data in files.items() if not path.is_file() or path.read_bytes() != data]
-        print(f"differ from what the model makes: {', '.join(differing)}" if differing else "both files are what the model makes")
-        return 1 if differing else 0
+        wrong = [path for path, data in files.items() if not path.is_file() or path.read_bytes() != data]
+        names = ", ".join(str(path.relative_to(folder.parent)) for path in wrong)
+        print(f"differ from what the model makes: {names}" if wrong else f"the {len(files)} files are what the model makes")
+        return 1 if wrong else 0
     for path, data in files.items():
         path.write_bytes(data)
     print_counts(vectors)
