@@ -139,9 +139,9 @@ word_small n i ks = rw (word_bits n i ks) (bits_small n (λ j. contains j (numbe
 
 -- ---- of a well-formed state
 
--- What a step of the pass needs: the job's bit is one of the word's, new, and the sum is below 2 ^ 32.
+-- What a step of the pass needs: the job's bit is one of the 32 of the word, new, and the sum is below 2 ^ 32.
 pub record Step (n : ℕ) (ks : List JobNo) (i x : ℕ) : Type 0 where
-  pub low : x < max_jobs
+  pub low : x < 32
   pub shifted : 1 * 2 ^ x % 2 ^ 32 ≡ 2 ^ x
   pub more : word_of n (i + 1) ks ≡ word_of n i ks + 2 ^ x
   pub small : word_of n i ks + 2 ^ x < 2 ^ 32
