@@ -32,7 +32,7 @@ use Rattle.station.proofs.Refused.{refused_memory, refused_event}
 use Rattle.station.proofs.Moments.{events_in, state_is, view_is, table_is, well_is, started_is}
 
 -- Where 18 is answered, it is the refusal's number.
-number_18 : (r : Result (Option JobNo) Refusal) (n : ℕ) (j : maybe.Option ℕ) → job_said r ≡ when_fit n j → r ≡ Err AboveFree → n ≡ 18
+pub number_18 : (r : Result (Option JobNo) Refusal) (n : ℕ) (j : maybe.Option ℕ) → job_said r ≡ when_fit n j → r ≡ Err AboveFree → n ≡ 18
 number_18 r zero j e h = grind (arith, ap job_said h)
 number_18 r (suc n) j e h = grind (arith, ap job_said h)
 

@@ -23,4 +23,5 @@ mod LentPart
 mod Moments
 mod Demand
 mod HandMade
+mod AtWork
 pub mod Unique

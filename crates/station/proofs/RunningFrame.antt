@@ -1,20 +1,26 @@
 -- The running job's frame: the last place that is counted is the top of the rules' stack, so the frame ends where all frames end, and starts
 -- as many bytes before; and all frames together fit the stack size.
 use Rattle.std.specs.Prelude.{◌≡◌, ◌≢◌, refl, true, false, List, [], ◌∷◌, map, reverse, ℕ, ◌+◌, ◌-◌, ◌≤◌, ◌<◌, length, take, Some, None, slice_get}
-use Rattle.std.proofs.Common.{ap, ap₂, sym, ◌∙◌, arith, eq-eqb, ne_eqb}
+use Rattle.std.proofs.Common.{ap, ap₂, sym, subst, ◌∙◌, arith, eq-eqb, ne_eqb}
 use Rattle.std.proofs.Math.Bool.{and-false}
 use Rattle.std.proofs.lemmas.List.{nil_from_length, length-take, take_all}
 use Rattle.std.proofs.lemmas.Option.{slice_get_within, get_or_from_slice_get}
-use Rattle.rules.specs.Table.{frame_of}
+use Rattle.rules.specs.Table.{Table, job_count, frame_of}
+use Rattle.rules.specs.State as R
 use Rattle.rules.specs.Memory.{frame_start}
+use Rattle.rules.proofs.Order.{Live}
+use Rattle.rules.proofs.Tables.{Good, good_table}
+use Rattle.rules.proofs.Well.{All, all_map, live_all}
 use Rattle.rules.proofs.Frames.{frames_fit}
 use Rattle.table.specs.Arrays.{table_of}
 use Rattle.station.specs.declared.Started.{Started}
 use Rattle.station.specs.declared.State.{State}
 use Rattle.station.specs.Arrays.{started_in, state_of}
 use Rattle.station.specs.WellFormed.{well_formed}
-use Rattle.station.specs.Frame.{part_between, top_frame, running_part}
+use Rattle.station.specs.Frame.{Part, part_between, top_frame, running_part}
 use Rattle.station.proofs.View.{stack_up, stack_more, none_at}
+use Rattle.station.proofs.Parts.{formed}
+use Rattle.station.proofs.Back.{stack_length}
 use Rattle.station.proofs.Well.{well_active}
 
 -- ---- no frame
@@ -83,3 +89,18 @@ module _ (s : State) (fs : List Started) (f : Started) (e : fs ≡ take s.depth 
 pub running_top : (s : State) (n : ℕ) → well_formed s ≡ true → n ≡ s.table.size → running_part s n ≡ top_frame (table_of s.table) (state_of s).stack
 unfolding running_part
 running_top s n w l = simp (w, eq-eqb n s.table.size l) refl
+
+-- A frame is never of length 0: the running job is listed, and a listed job's frame has some bytes.
+some_frame : (t : Table) (fs : List R.Started) → 0 < length fs → Good t → All (λ (f : R.Started). f.entry.who < job_count t) fs → 0 < (top_frame t fs).length
+some_frame t [] l g h = absurd (omega arith)
+some_frame t (f ∷ fs) l g h = g.framed f.entry.who h.0
+
+pub frame_some : (s : State) (n : ℕ) → well_formed s ≡ true → n ≡ s.table.size → 0 < s.depth → 0 < (running_part s n).length
+frame_some s n w l d =
+    let t = table_of s.table in
+    let k = well_active s w (omega arith) in
+    let long : length (state_of s).stack ≡ s.depth = stack_length s (formed s w).padding in
+    let h = all_map (λ (f : R.Started). Live t (state_of s) f.entry) (λ (f : R.Started). f.entry.who < job_count t) (λ f x. x.listed)
+    (state_of s).stack (live_all t (state_of s) k).0 in
+    subst (λ (p : Part). 0 < p.length) (sym (running_top s n w l))
+    (some_frame t (state_of s).stack (omega (arith, long)) (good_table t k.table) h)
