@@ -1,6 +1,6 @@
 -- One outcome: any two results that a contract of this crate allows are equal, and so are the states and the memory that it leaves. Each
 -- contract is one equation of the result, or of its number, and a number has one word.
-use Rattle.std.specs.Prelude.{◌≡◌, ℕ, Result, Ok, Err, Option, Some, None}
+use Rattle.std.specs.Prelude.{◌≡◌, ℕ, ◌-◌, ◌≤◌, Result, Ok, Err, Option, Some, None}
 use Rattle.std.proofs.Common.{sym, ap, ◌∙◌, arith}
 use Rattle.table.specs.declared.JobNo.{JobNo}
 use Rattle.table.specs.declared.Level.{Level}
@@ -10,6 +10,7 @@ use Rattle.station.specs.declared.work.Station.{Station}
 use Rattle.station.specs.Arrays.{who}
 use Rattle.station.specs.Reading.{level_said, job_said}
 use Rattle.station.specs.Sequence.{Applied}
+use Rattle.station.specs.Frame.{Part, part_between}
 use Rattle.station.proofs.StartedDefault.default.Reads as started_of_zeros
 use Rattle.station.proofs.StateDefault.default.Reads as state_of_zeros
 use Rattle.station.proofs.State.fresh.Reads as fresh
@@ -21,6 +22,7 @@ use Rattle.station.proofs.State.number_waiting.Reads as number_waiting
 use Rattle.station.proofs.State.waiting_word.Reads as waiting_word
 use Rattle.station.proofs.State.apply.Reads as apply
 use Rattle.station.proofs.State.running_frame.Reads as running_frame
+use Rattle.station.proofs.State.running_bytes.Reads as running_bytes
 use Rattle.station.proofs.work.Station.new.Reads as at_work
 use Rattle.station.proofs.work.Station.apply.Reads as worked
 use Rattle.station.proofs.work.Station.running.Reads as runs_now
@@ -88,6 +90,17 @@ apply_applied κs a r x p = record { answered = p.0; left = p.1.0 }
 pub running_frame_agrees : (κs : _) (a : _) (r₁ r₂ : _) (x₁ x₂ : _) → running_frame.Post κs a r₁ x₁ → running_frame.Post κs a r₂ x₂
     → (r₁.now ≡ r₂.now) × (r₁.ref_ptr ≡ r₂.ref_ptr)
 running_frame_agrees κs a r₁ r₂ x₁ x₂ p q = (p.bytes ∙ sym q.bytes, p.address ∙ sym q.address)
+
+-- Where the frame starts and ends: it ends no earlier than it starts, so its part tells both.
+ends_once : (a₁ b₁ a₂ b₂ : ℕ) → a₁ ≤ b₁ → a₂ ≤ b₂ → part_between a₁ b₁ ≡ part_between a₂ b₂ → (a₁ ≡ a₂) × (b₁ ≡ b₂)
+ends_once a₁ b₁ a₂ b₂ h k e =
+    let s : a₁ ≡ a₂ = ap (λ (p : Part). p.start) e in
+    let l : b₁ - a₁ ≡ b₂ - a₂ = ap (λ (p : Part). p.length) e in
+    (s, omega (arith, h, k, s, l))
+
+pub running_bytes_agrees : (κs : _) (a : _) (r₁ r₂ : _) (x₁ x₂ : _) → running_bytes.Post κs a r₁ x₁ → running_bytes.Post κs a r₂ x₂
+    → (r₁.0 ≡ r₂.0) × (r₁.1 ≡ r₂.1)
+running_bytes_agrees κs a r₁ r₂ x₁ x₂ p q = ends_once r₁.0 r₁.1 r₂.0 r₂.1 p.0.0 q.0.0 (sym p.1 ∙ q.1)
 
 -- ---- a station at work
 

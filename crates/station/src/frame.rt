@@ -21,7 +21,7 @@ impl State {
     }
 
     /// Where the running job's frame starts and ends in a stack memory of so many bytes.
-    fn running_bytes(&self, size: usize) -> (usize, usize)
+    pub fn running_bytes(&self, size: usize) -> (usize, usize)
         ensures within { (result.0 ≤ result.1) × (result.1 ≤ size) }
         ensures part { running_part self.now size ≡ part_between result.0 result.1 }
     {

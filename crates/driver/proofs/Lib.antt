@@ -1,0 +1,3 @@
+-- What is proved of the exported functions.
+pub mod Fresh
+pub mod Unique
