@@ -2,3 +2,6 @@
 pub mod Listed
 pub mod Stored
 pub mod Unique
+pub mod Standing
+pub mod ReadBack
+pub mod WriteBack

@@ -20,60 +20,60 @@ pub record Long (s : State) : Type 0 where
   pub waiting : length (each number_bytes s.waiting) ≡ 1 * max_jobs
 
 -- The bytes before each field.
-abbrev to_units : State → List ℕ
+abbrev pub to_units : State → List ℕ
 to_units s = two s.table.size
 
-abbrev to_resource_count : State → List ℕ
+abbrev pub to_resource_count : State → List ℕ
 to_resource_count s = to_units s ++ each two s.table.units
 
-abbrev to_jobs : State → List ℕ
+abbrev pub to_jobs : State → List ℕ
 to_jobs s = to_resource_count s ++ (s.table.resource_count ∷ [])
 
-abbrev to_job_count : State → List ℕ
+abbrev pub to_job_count : State → List ℕ
 to_job_count s = to_jobs s ++ each job_bytes s.table.jobs
 
-abbrev to_stack : State → List ℕ
+abbrev pub to_stack : State → List ℕ
 to_stack s = to_job_count s ++ (s.table.job_count ∷ [])
 
-abbrev to_depth : State → List ℕ
+abbrev pub to_depth : State → List ℕ
 to_depth s = to_stack s ++ each started_bytes s.stack
 
-abbrev to_waiting : State → List ℕ
+abbrev pub to_waiting : State → List ℕ
 to_waiting s = to_depth s ++ (s.depth ∷ [])
 
-abbrev to_waiting_count : State → List ℕ
+abbrev pub to_waiting_count : State → List ℕ
 to_waiting_count s = to_waiting s ++ each number_bytes s.waiting
 
-abbrev to_end : State → List ℕ
+abbrev pub to_end : State → List ℕ
 to_end s = to_waiting_count s ++ (s.waiting_count ∷ [])
 
 -- As many as its place says.
 module _ (s : State) (l : Long s) where
-  long_to_resource_count : length (to_resource_count s) ≡ resource_count_at
+  pub long_to_resource_count : length (to_resource_count s) ≡ resource_count_at
   long_to_resource_count = length-append (to_units s) (each two s.table.units) ∙ ap (λ (k : ℕ). units_at + k) l.units
 
-  long_to_jobs : length (to_jobs s) ≡ jobs_at
+  pub long_to_jobs : length (to_jobs s) ≡ jobs_at
   long_to_jobs = length-append (to_resource_count s) (s.table.resource_count ∷ []) ∙ ap (λ (k : ℕ). k + 1) long_to_resource_count
 
-  long_to_job_count : length (to_job_count s) ≡ job_count_at
+  pub long_to_job_count : length (to_job_count s) ≡ job_count_at
   long_to_job_count = length-append (to_jobs s) (each job_bytes s.table.jobs) ∙ ap₂ (λ (j k : ℕ). j + k) long_to_jobs l.jobs
 
-  long_to_stack : length (to_stack s) ≡ stack_at
+  pub long_to_stack : length (to_stack s) ≡ stack_at
   long_to_stack = length-append (to_job_count s) (s.table.job_count ∷ []) ∙ ap (λ (k : ℕ). k + 1) long_to_job_count
 
-  long_to_depth : length (to_depth s) ≡ depth_at
+  pub long_to_depth : length (to_depth s) ≡ depth_at
   long_to_depth = length-append (to_stack s) (each started_bytes s.stack) ∙ ap₂ (λ (j k : ℕ). j + k) long_to_stack l.stack
 
-  long_to_waiting : length (to_waiting s) ≡ waiting_at
+  pub long_to_waiting : length (to_waiting s) ≡ waiting_at
   long_to_waiting = length-append (to_depth s) (s.depth ∷ []) ∙ ap (λ (k : ℕ). k + 1) long_to_depth
 
-  long_to_waiting_count : length (to_waiting_count s) ≡ waiting_count_at
+  pub long_to_waiting_count : length (to_waiting_count s) ≡ waiting_count_at
   long_to_waiting_count = length-append (to_waiting s) (each number_bytes s.waiting) ∙ ap₂ (λ (j k : ℕ). j + k) long_to_waiting l.waiting
 
-  long_to_end : length (to_end s) ≡ state_size
+  pub long_to_end : length (to_end s) ≡ state_size
   long_to_end = length-append (to_waiting_count s) (s.waiting_count ∷ []) ∙ ap (λ (k : ℕ). k + 1) long_to_waiting_count
 
-  to_end_is : to_end s ≡ state_bytes s
+  pub to_end_is : to_end s ≡ state_bytes s
   unfolding state_bytes
   to_end_is = refl
 

@@ -1,5 +1,5 @@
 -- A state as bytes: its fields in order, numbers with the high byte first.
-use Rattle.std.specs.Prelude.{List, [], ◌∷◌, ◌++◌, ℕ, ◌+◌, ◌*◌, length, eqb, slice_index, Result, Ok, Err}
+use Rattle.std.specs.Prelude.{◌≡◌, All, List, [], ◌∷◌, ◌++◌, ℕ, ◌+◌, ◌*◌, length, eqb, slice_index, Result, Ok, Err}
 use Rattle.rules.specs.Limits.{max_jobs, max_resources}
 use Rattle.rules.specs.Choice.{pick}
 use Rattle.table.specs.declared.Job.{Job}
@@ -105,6 +105,21 @@ state_read b =
       waiting = items number_read 1 max_jobs b waiting_at;
       waiting_count = slice_index b waiting_count_at;
     }
+
+-- What the types say of a state: each array has a place for each job, or for each resource.
+abbrev pub JobFull : Job → Type 0
+JobFull j = length j.needs ≡ max_resources
+
+abbrev pub StartedFull : Started → Type 0
+StartedFull f = length f.held ≡ max_resources
+
+pub record StateFull (s : State) : Type 0 where
+  pub units : length s.table.units ≡ max_resources
+  pub jobs : length s.table.jobs ≡ max_jobs
+  pub needs : All JobFull s.table.jobs
+  pub stack : length s.stack ≡ max_jobs
+  pub held : All StartedFull s.stack
+  pub waiting : length s.waiting ≡ max_jobs
 
 -- ---- storing and reading
 
