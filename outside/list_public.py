@@ -32,7 +32,7 @@ QUOTED_UNDER = "The page, sentence by sentence"
 OMITTED = " .. "
 
 IMPL = re.compile(r"impl\b(?:<[^>]*>)? (?:(?P<trait>[\w<>]+) for )?(?P<type>\w+)")
-FUNCTION = re.compile(r"(?P<public>pub )?(?:pub\(crate\) )?(?:const )?fn (?P<name>\w+)")
+FUNCTION = re.compile(r"(?P<public>pub )?(?:pub\(crate\) )?(?:const )?(?:extern \"C\" )?fn (?P<name>\w+)")
 DECLARED = re.compile(r"(?P<public>pub )?(?:pub\(crate\) )?(?:struct|enum|trait|const) (?P<name>\w+)")
 
 
@@ -54,7 +54,7 @@ class Function(NamedTuple):
 def crates():
     """The crates of crates.txt, in its order."""
     lines = (ROOT / "crates.txt").read_text().splitlines()
-    return [line.split(":")[0].strip() for line in lines if line.strip() and not line.startswith("#")]
+    return [line.split(":")[0].split()[0] for line in lines if line.strip() and not line.startswith("#")]
 
 
 def sources(crate):
@@ -76,7 +76,7 @@ def head_at(lines, at):
 
 
 def functions(path, hidden):
-    """The functions of a source. `hidden` are the crate's types that callers in other crates don't have."""
+    """The functions of a source. `hidden` are the crate's types and traits that callers in other crates don't have."""
     lines = path.read_text().splitlines()
     block, found = None, []
     for at, line in enumerate(lines):
@@ -87,8 +87,8 @@ def functions(path, hidden):
         indent = len(line) - len(line.lstrip())
         if not match or indent != (4 if block else 0):
             continue
-        of_type = block["type"] if block else ""
-        public = bool(match["public"]) or bool(block and block["trait"])
+        of_type, of_trait = (block["type"], block["trait"]) if block else ("", None)
+        public = bool(match["public"]) or bool(of_trait and of_trait not in hidden)
         found.append(Function(of_type, match["name"], public and of_type not in hidden, head_at(lines, at)))
     return found
 
