@@ -1,8 +1,8 @@
 -- One item more of a list that is stored or read, each in w bytes.
 -- A list from place i on is its item there and then what follows; and w bytes for each of i items, and w more, are w for each of i + 1.
-use Rattle.std.specs.Prelude.{◌≡◌, List, [], ◌∷◌, ◌++◌, ℕ, suc, ◌+◌, ◌-◌, ◌*◌, ◌≤◌, ◌<◌, length, get_or, take, drop, set}
-use Rattle.std.proofs.Common.{sym, ap, ◌∙◌, arith, length-append, append_assoc}
-use Rattle.std.proofs.lemmas.List.{drop_more, take_more_set}
+use Rattle.std.specs.Prelude.{◌≡◌, refl, Bool, true, false, ltb, List, [], ◌∷◌, ◌++◌, ℕ, suc, ◌+◌, ◌-◌, ◌*◌, ◌≤◌, ◌<◌, length, get_or, take, drop, set}
+use Rattle.std.proofs.Common.{ltb-true, ltb-false, sym, ap, ◌∙◌, arith, length-append, append_assoc}
+use Rattle.std.proofs.lemmas.List.{get_or_default, drop_more, take_more_set}
 use Rattle.std.proofs.lemmas.List.Edits.{sets}
 use Rattle.field.proofs.Stores.{sets_next}
 use Rattle.state_form.specs.Items.{each, items}
@@ -21,6 +21,16 @@ long_more whole w i more left e f = let g : w * (i + 1) ≡ w * i + w = grind ar
 -- ---- storing
 
 module _ {A : Type 0} (bytes : A → List ℕ) (w : ℕ) (xs : List A) (i : ℕ) (x : A) (h : i < length xs) (is : x ≡ get_or xs i x) (l : length (bytes x) ≡ w) where
+  -- Each of the first i takes w bytes, and so does this one.
+  pub widths_more : ((k : ℕ) (d : A) → k < i → length (bytes (get_or xs k d)) ≡ w) → (k : ℕ) (d : A) → k < i + 1 → length (bytes (get_or xs k d)) ≡ w
+  widths_more all k d m = go (ltb k i) refl
+    where
+      go : (b : Bool) → ltb k i ≡ b → length (bytes (get_or xs k d)) ≡ w
+      go true e = all k d (ltb-true k i e)
+      go false e =
+          let j : k ≡ i = omega (arith, m, ltb-false k i e) in
+          ap (λ (n : ℕ). length (bytes (get_or xs n d))) j ∙ ap (λ (y : A). length (bytes y)) (get_or_default xs i d x h ∙ sym is) ∙ l
+
   one_more : each bytes (drop i xs) ≡ bytes x ++ each bytes (drop (i + 1) xs)
   one_more = ap (each bytes) (drop_more xs i x h) ∙ ap (λ (y : A). bytes y ++ each bytes (drop (i + 1) xs)) (sym is)
 

@@ -102,11 +102,13 @@ module _ (s : State) (l : Long s) where
       (ap (sets out 0) to_end_is)
 
 -- Stored into a buffer of as many bytes, they are all of it.
-pub all_over : (s : State) (out new : List ℕ) → length out ≡ state_size → length (state_bytes s) ≡ state_size → new ≡ sets out 0 (state_bytes s) → new ≡ put_out s out
-all_over s out new n l e =
+pub all_stored : (s : State) (out new : List ℕ) → length out ≡ state_size → length (state_bytes s) ≡ state_size → new ≡ sets out 0 (state_bytes s) → new ≡ state_bytes s
+all_stored s out new n l e =
     let all : drop (length (state_bytes s)) out ≡ [] = drop_all (length (state_bytes s)) out (omega (arith, l, n)) in
-    rw n
-    (e
+    e
     ∙ sets_over out (state_bytes s) (omega (arith, l, n))
     ∙ ap (λ (r : List ℕ). state_bytes s ++ r) all
-    ∙ append-nil (state_bytes s))
+    ∙ append-nil (state_bytes s)
+
+pub all_over : (s : State) (out new : List ℕ) → length out ≡ state_size → length (state_bytes s) ≡ state_size → new ≡ sets out 0 (state_bytes s) → new ≡ put_out s out
+all_over s out new n l e = rw n (all_stored s out new n l e)

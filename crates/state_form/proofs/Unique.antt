@@ -10,4 +10,4 @@ get_state_agrees κs a r₁ r₂ x₁ x₂ p q = in_numbers_once r₁ r₂ (p �
 
 pub put_state_agrees : (κs : _) (a : _) (r₁ r₂ : _) (x₁ x₂ : _) → put_state.Post κs a r₁ x₁ → put_state.Post κs a r₂ x₂
     → (r₁ ≡ r₂) × (x₁.1.0.now ≡ x₂.1.0.now)
-put_state_agrees κs a r₁ r₂ x₁ x₂ p q = (judged_once r₁ r₂ (p.0 ∙ sym q.0), p.1 ∙ sym q.1)
+put_state_agrees κs a r₁ r₂ x₁ x₂ p q = (judged_once r₁ r₂ (p.0 ∙ sym q.0), p.1.0 ∙ sym q.1.0)

@@ -1,5 +1,5 @@
 // What stands in a state's arrays, each kind in a fixed number of bytes: numbers of two bytes, jobs, places of the stack, jobs that wait.
-ghost use Rattle.std.specs.Prelude.{◌≡◌, List, [], ◌∷◌, ◌++◌, ℕ, ◌+◌, ◌*◌, ◌≤◌, length, slice_index};
+ghost use Rattle.std.specs.Prelude.{◌≡◌, All, List, [], ◌∷◌, ◌++◌, ℕ, ◌+◌, ◌*◌, ◌≤◌, length, slice_index};
 ghost use Rattle.std.proofs.lemmas.List.Edits.{sets};
 ghost use Rattle.field.specs.Field.{two, pair_at};
 ghost use Rattle.state_form.specs.Items.{each, items};
@@ -39,6 +39,7 @@ pub(crate) trait Item: Copy {
 /// Stores items one after the other.
 pub(crate) fn put_items<T: Item>(list: &[T], out: &mut [u8], at: usize)
     requires { at + T.WIDTH * length list.now ≤ length out.old }
+    ensures widths { All (λ x. length (T.bytes x) ≡ T.WIDTH) list.now }
     ensures width { length (each T.bytes list.now) ≡ T.WIDTH * length list.now }
     ensures bytes { out.new ≡ sets out.old at (each T.bytes list.now) }
 {

@@ -1,8 +1,8 @@
 // Storing a state.
-ghost use Rattle.std.specs.Prelude.{◌≡◌, length};
+ghost use Rattle.std.specs.Prelude.{◌≡◌, length, Ok};
 ghost use Rattle.std.proofs.lemmas.List.Edits.{sets};
 ghost use Rattle.table.specs.Judging.{judged_number};
-ghost use Rattle.state_form.specs.Form.{state_bytes, state_size, put_answer, put_out};
+ghost use Rattle.state_form.specs.Form.{state_bytes, state_size, put_answer, put_out, get_answer, StateFull};
 
 use crate::item::put_items;
 use crate::{
@@ -17,6 +17,8 @@ use table::Refusal;
 pub fn put_state(state: &State, out: &mut [u8]) -> Result<(), Refusal>
     ensures answer { judged_number result ≡ put_answer (length out.old) }
     ensures bytes { out.new ≡ put_out state.now out.old }
+    // What is stored is read back as it was.
+    ensures back { judged_number result ≡ 0 → get_answer out.new ≡ Ok state.now }
 {
     if out.len() != STATE_BYTES {
         return Err(Refusal::BufferTooShort);
@@ -28,6 +30,7 @@ pub fn put_state(state: &State, out: &mut [u8]) -> Result<(), Refusal>
 /// Every field in its place.
 fn put_all(state: &State, out: &mut [u8])
     requires { length out.old ≡ state_size }
+    ensures full { StateFull state.now }
     ensures width { length (state_bytes state.now) ≡ state_size }
     ensures bytes { out.new ≡ sets out.old 0 (state_bytes state.now) }
 {

@@ -3,6 +3,7 @@ use Rattle.std.proofs.Common.{rules, ◌≡◌, ◌*◌, ◌∙◌, ℕ, ap, len
 use Rattle.rules.specs.Limits.{max_jobs, max_resources}
 use Rattle.state_form.specs.Form.{job_size, started_size}
 use Rattle.state_form.proofs.Stored.{Long, state_long, state_put}
+use Rattle.state_form.proofs.Fullness.{jobs_full, places_full}
 use Rattle.state_form.proofs.write.put_all.Goals as goal
 
 long : (c : goal.After-slice_known-10-1) → Long c.args.state.now
@@ -17,6 +18,18 @@ long c =
       jobs = c.put_items-2.ensures.width ∙ ap (λ (k : ℕ). job_size * k) jobs;
       stack = c.put_items-3.ensures.width ∙ ap (λ (k : ℕ). started_size * k) stack;
       waiting = c.put_items-4.ensures.width ∙ ap (λ (k : ℕ). 1 * k) waiting;
+    }
+
+pub returns-clause-full : goal.returns-clause-full
+returns-clause-full c =
+    let s = c.args.state.now in
+    record {
+      units = search rules;
+      jobs = search rules;
+      needs = jobs_full s.table.jobs c.put_items-2.ensures.widths;
+      stack = search rules;
+      held = places_full s.stack c.put_items-3.ensures.widths;
+      waiting = search rules;
     }
 
 pub returns-clause-width : goal.returns-clause-width
