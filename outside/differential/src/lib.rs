@@ -2,7 +2,8 @@
 
 pub mod compare;
 pub mod generator;
-pub mod library;
 pub mod model;
 pub mod program;
 pub mod state_bytes;
+
+pub use urzalinda as library;

@@ -2,7 +2,7 @@
 
 use crate::model::{Job, MAX_JOBS, MAX_RESOURCES, MAX_UNITS, Started, Station, Table};
 
-pub const STATE_BYTES: usize = 1206;
+pub use urzalinda::STATE_BYTES;
 
 /// The bytes of a state.
 pub fn state_bytes(station: &Station) -> Vec<u8> {

@@ -8,22 +8,14 @@ use differential::library::{self, State};
 use differential::model::{self, Event, Station};
 use differential::state_bytes::state_bytes;
 use std::hint::black_box;
-use std::process::ExitCode;
 use std::time::Instant;
 
 const RUNS: usize = 40;
 
-fn main() -> ExitCode {
-    if !library::LINKED {
-        eprintln!("built without URZALINDA_LIB: there is no proved library to time");
-        return ExitCode::from(2);
-    }
+fn main() {
     replay_longest_log();
-    if library::STATES {
-        read_longest_table();
-        apply_once();
-    }
-    ExitCode::SUCCESS
+    read_longest_table();
+    apply_once();
 }
 
 /// The best time of one call, in nanoseconds, where a run makes so many calls.

@@ -4,7 +4,6 @@ use differential::compare::{
     Difference, Seen, hand_made_differs, hex, library_differs, program_differs, shortened, steps_differ,
 };
 use differential::generator::{self, Kind, Random};
-use differential::library;
 use std::env;
 use std::path::{Path, PathBuf};
 use std::process::ExitCode;
@@ -39,9 +38,6 @@ fn options() -> Result<Options, String> {
             _ => return Err(USAGE.to_string()),
         }
     }
-    if !library::LINKED && options.program.is_none() {
-        return Err("nothing to compare with: built without URZALINDA_LIB, and no --program".to_string());
-    }
     Ok(options)
 }
 
@@ -53,14 +49,8 @@ fn main() -> ExitCode {
             return ExitCode::from(2);
         }
     };
-    let mut found = 0;
     report_inputs(&options);
-    if library::LINKED {
-        found += through_library(&options);
-    }
-    if library::STATES {
-        found += step_by_step(&options);
-    }
+    let mut found = through_library(&options) + step_by_step(&options);
     if let Some(program) = &options.program {
         match through_program(&options, program) {
             Ok(differences) => found += differences,

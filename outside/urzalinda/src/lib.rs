@@ -1,37 +1,15 @@
-//! The proved code, reached through the static library. `unsafe` stands here and nowhere else.
+//! The proved scheduler for Rust: safe wrappers of the library of crates/driver. `unsafe` stands here and nowhere else.
 //!
 //! Each exported function takes any bytes at all, and tests for itself: its contract has no `requires`. What a caller owes is said by its types:
 //! a pointer and a length are those of one slice, borrowed for the call, and slices that are written do not overlap others.
-#![allow(unsafe_code)]
+//! Refusals are answered by the numbers of README.md; a refused call changes no byte.
 
-use crate::state_bytes::STATE_BYTES;
+/// How many bytes a state takes.
+pub const STATE_BYTES: usize = 1206;
 
-/// Whether the library was linked, and has replay.
-pub const LINKED: bool = cfg!(library);
-
-/// Whether it has the functions over a state's bytes.
-pub const STATES: bool = cfg!(library_states);
-
-/// Functions that the library exports, where it was linked. Where it was not, a call of one panics.
-macro_rules! exported {
-    ($linked:ident: $(fn $name:ident($($argument:ident: $kind:ty),*) -> $answer:ty;)*) => {
-        #[cfg($linked)]
-        unsafe extern "C" {
-            $(fn $name($($argument: $kind),*) -> $answer;)*
-        }
-        $(#[cfg(not($linked))]
-        unsafe fn $name($(_: $kind),*) -> $answer {
-            panic!(concat!(stringify!($name), " is not in the library that this was built with"))
-        })*
-    };
-}
-
-exported! { library:
+unsafe extern "C" {
     fn urzalinda_replay(input: *const u8, input_len: usize, out: *mut u8, out_len: usize) -> u64;
     fn urzalinda_room(bytes: u64) -> u64;
-}
-
-exported! { library_states:
     fn urzalinda_read_table(input: *const u8, len: usize) -> u64;
     fn urzalinda_refused_at(input: *const u8, len: usize) -> u64;
     fn urzalinda_fresh(table: *const u8, table_len: usize, state: *mut u8, state_len: usize) -> u32;
@@ -124,26 +102,31 @@ impl State {
         })
     }
 
+    /// The running job, if any.
     pub fn running(&self) -> Result<Option<u32>, u32> {
         // SAFETY: as above.
         said_small(unsafe { urzalinda_running(self.bytes.as_ptr(), self.bytes.len()) })
     }
 
+    /// The system ceiling: a level.
     pub fn system_ceiling(&self) -> Result<Option<u32>, u32> {
         // SAFETY: as above.
         said_small(unsafe { urzalinda_system_ceiling(self.bytes.as_ptr(), self.bytes.len()) })
     }
 
+    /// The ceiling of a resource as its free units are: a level.
     pub fn ceiling(&self, resource: u8) -> Result<Option<u32>, u32> {
         // SAFETY: as above.
         said_small(unsafe { urzalinda_ceiling(self.bytes.as_ptr(), self.bytes.len(), resource) })
     }
 
+    /// How many jobs wait.
     pub fn number_waiting(&self) -> Result<Option<u32>, u32> {
         // SAFETY: as above.
         said_small(unsafe { urzalinda_number_waiting(self.bytes.as_ptr(), self.bytes.len()) })
     }
 
+    /// Which jobs wait: bit j is job j.
     pub fn waiting_word(&self) -> Result<u64, u32> {
         // SAFETY: as above.
         said(unsafe { urzalinda_waiting_word(self.bytes.as_ptr(), self.bytes.len()) })
@@ -159,5 +142,11 @@ impl State {
     pub fn frame_length(&self, memory_length: usize) -> u64 {
         // SAFETY: as above.
         unsafe { urzalinda_frame_length(self.bytes.as_ptr(), self.bytes.len(), memory_length as u64) }
+    }
+    /// The running job's own part of the lent stack memory, to be written: empty if the state or the memory is refused, or nothing runs.
+    pub fn running_frame<'a>(&self, memory: &'a mut [u8]) -> &'a mut [u8] {
+        let start = self.frame_start(memory.len()) as usize;
+        let length = self.frame_length(memory.len()) as usize;
+        &mut memory[start..start + length]
     }
 }
