@@ -6,10 +6,7 @@ use std::process::{Command, Stdio};
 
 /// What the program prints for an input.
 pub fn replay(program: &Path, input: &[u8]) -> io::Result<Vec<u8>> {
-    let mut child = Command::new(program)
-        .stdin(Stdio::piped())
-        .stdout(Stdio::piped())
-        .spawn()?;
+    let mut child = Command::new(program).stdin(Stdio::piped()).stdout(Stdio::piped()).spawn()?;
     // It reads what it replays before it prints anything, so all may be written first. Of an input that is too long it leaves the rest.
     if let Some(mut stdin) = child.stdin.take() {
         match stdin.write_all(input) {

@@ -44,11 +44,7 @@ pub fn state_of(bytes: &[u8]) -> Option<Station> {
         return None;
     }
     let mut rest = Rest(bytes);
-    let mut table = Table {
-        stack_size: rest.number(),
-        units: (0..MAX_RESOURCES).map(|_| rest.number()).collect(),
-        jobs: Vec::new(),
-    };
+    let mut table = Table { stack_size: rest.number(), units: (0..MAX_RESOURCES).map(|_| rest.number()).collect(), jobs: Vec::new() };
     let resources = usize::from(rest.byte());
     let mut jobs: Vec<Job> = (0..MAX_JOBS).map(|_| rest.job()).collect();
     let job_count = usize::from(rest.byte());
@@ -145,17 +141,10 @@ impl Rest<'_> {
     }
 
     fn job(&mut self) -> Job {
-        Job {
-            level: self.byte(),
-            frame: self.number(),
-            needs: self.numbers(),
-        }
+        Job { level: self.byte(), frame: self.number(), needs: self.numbers() }
     }
 
     fn started(&mut self) -> Started {
-        Started {
-            job: self.byte(),
-            held: self.numbers(),
-        }
+        Started { job: self.byte(), held: self.numbers() }
     }
 }

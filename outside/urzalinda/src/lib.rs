@@ -81,9 +81,7 @@ impl State {
     /// Stores the fresh state of the table at the front of some bytes over the bytes of this one.
     pub fn store_fresh(&mut self, table: &[u8]) -> Result<(), u32> {
         // SAFETY: as above; the table and the state are lent apart from each other.
-        let answer = unsafe {
-            urzalinda_fresh(table.as_ptr(), table.len(), self.bytes.as_mut_ptr(), self.bytes.len())
-        };
+        let answer = unsafe { urzalinda_fresh(table.as_ptr(), table.len(), self.bytes.as_mut_ptr(), self.bytes.len()) };
         if answer == 0 { Ok(()) } else { Err(answer) }
     }
 
@@ -91,14 +89,7 @@ impl State {
     pub fn apply(&mut self, event: &[u8], memory: &mut [u8]) -> Result<Option<u32>, u32> {
         // SAFETY: as above; state and memory are lent apart from each other.
         said_small(unsafe {
-            urzalinda_apply(
-                self.bytes.as_mut_ptr(),
-                self.bytes.len(),
-                event.as_ptr(),
-                event.len(),
-                memory.as_mut_ptr(),
-                memory.len(),
-            )
+            urzalinda_apply(self.bytes.as_mut_ptr(), self.bytes.len(), event.as_ptr(), event.len(), memory.as_mut_ptr(), memory.len())
         })
     }
 

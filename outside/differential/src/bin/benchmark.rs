@@ -6,7 +6,7 @@
 use differential::generator::{self, Random, event_bytes, table_bytes};
 use differential::library::{self, State};
 use differential::model::{self, Event, Station};
-use differential::state_bytes::state_bytes;
+use differential::state_bytes::{state_bytes, state_of};
 use std::hint::black_box;
 use std::time::Instant;
 
@@ -69,7 +69,8 @@ fn read_longest_table() {
 }
 
 /// One public apply: the running job of a busy state takes a unit, and gives it back. The library is lent the state as bytes, reads them, tests
-/// that the state is well formed, and stores them; plain Rust keeps its own state and tests nothing again.
+/// that the state is well formed, and stores them. Plain Rust is timed twice: with its own state, where nothing is tested again, and over
+/// bytes, where it does all that the library does. Reading the number waiting shows what bytes and test take without an event.
 fn apply_once() {
     let mut station = busy();
     let mut memory = vec![0; usize::from(station.table.stack_size)];
@@ -93,7 +94,28 @@ fn apply_once() {
         }
     });
     println!("a busy state: {} started, {} waiting", station.stack.len(), station.waiting.len());
-    line("one apply", proved / 2.0, plain / 2.0);
+    line("one apply, plain with its own state", proved / 2.0, plain / 2.0);
+    let mut kept = state.bytes.clone();
+    let plain = best(200, || {
+        for event in pair {
+            let mut station = state_of(black_box(&kept)).expect("the state is well formed");
+            assert_eq!(station.apply(event, &mut memory), Ok(None));
+            kept.copy_from_slice(&state_bytes(&station));
+        }
+    });
+    line("one apply, plain over bytes too", proved / 2.0, plain / 2.0);
+    read_once(&state);
+}
+
+/// The number waiting, read from a state's bytes.
+fn read_once(state: &State) {
+    let proved = best(400, || {
+        black_box(black_box(state).number_waiting()).ok();
+    });
+    let plain = best(400, || {
+        black_box(state_of(black_box(&state.bytes)).map(|station| station.waiting.len()));
+    });
+    line("reading the number waiting, both over bytes", proved, plain);
 }
 
 /// A state of the longest table with jobs that run, wait and hold units.

@@ -1,8 +1,6 @@
 //! Runs inputs from a seed through the model and through the proved code, and compares the outputs byte for byte.
 
-use differential::compare::{
-    Difference, Seen, hand_made_differs, hex, library_differs, program_differs, shortened, steps_differ,
-};
+use differential::compare::{Difference, Seen, hand_made_differs, hex, library_differs, program_differs, shortened, steps_differ};
 use differential::generator::{self, Kind, Random};
 use std::env;
 use std::path::{Path, PathBuf};
@@ -109,9 +107,11 @@ fn step_by_step(options: &Options) -> u64 {
     let (mut events, mut well_formed, mut refused) = (0, 0, 0);
     while tried < options.inputs && found < options.differences {
         let (_, input) = generator::input(options.seed, tried);
-        let mut random = Random::new(options.seed ^ 0x5eed, tried);
-        let steps = steps_differ(&input, &mut random, STEPS).map(|applied| events += applied);
-        let hand_made = hand_made_differs(&input, &mut random).map(|made| match made {
+        let random = || Random::new(options.seed ^ 0x5eed, tried);
+        let again = |bytes: &[u8]| steps_differ(bytes, &mut random(), STEPS).map(|_| ());
+        let steps = steps_differ(&input, &mut random(), STEPS).map(|applied| events += applied);
+        let steps = steps.map_err(|difference| Box::new(shortened(*difference, again)));
+        let hand_made = hand_made_differs(&input, &mut random()).map(|made| match made {
             Some(true) => well_formed += 1,
             Some(false) => refused += 1,
             None => {}

@@ -22,21 +22,11 @@ pub struct Difference {
 }
 
 /// Nothing if two answers are the same.
-fn compared<T: PartialEq + std::fmt::Debug>(
-    what: &str,
-    input: &[u8],
-    model: T,
-    proved: T,
-) -> Result<(), Box<Difference>> {
+fn compared<T: PartialEq + std::fmt::Debug>(what: &str, input: &[u8], model: T, proved: T) -> Result<(), Box<Difference>> {
     if model == proved {
         return Ok(());
     }
-    Err(Box::new(Difference {
-        what: what.to_string(),
-        input: input.to_vec(),
-        model: format!("{model:?}"),
-        proved: format!("{proved:?}"),
-    }))
+    Err(Box::new(Difference { what: what.to_string(), input: input.to_vec(), model: format!("{model:?}"), proved: format!("{proved:?}") }))
 }
 
 /// Bytes in hex.

@@ -59,10 +59,7 @@ fn texts(input: &[u8], model: &[u8], proved: &[u8]) -> Result<(), Box<Difference
 const EFFORT: usize = 4_000_000;
 
 /// The last difference that is found while parts of the input are taken out, from large ones to single bytes.
-pub fn shortened(
-    first: Difference,
-    differs: impl Fn(&[u8]) -> Result<(), Box<Difference>>,
-) -> Difference {
+pub fn shortened(first: Difference, differs: impl Fn(&[u8]) -> Result<(), Box<Difference>>) -> Difference {
     let mut best = first;
     let mut width = best.input.len() / 2;
     let mut tried = 0;

@@ -84,12 +84,7 @@ fn step(
 }
 
 /// What is read from a state, by the model and by the library. The model has no station where the state is not well formed.
-pub fn readers(
-    input: &[u8],
-    station: Option<&Station>,
-    state: &State,
-    memory_length: usize,
-) -> Result<(), Box<Difference>> {
+pub fn readers(input: &[u8], station: Option<&Station>, state: &State, memory_length: usize) -> Result<(), Box<Difference>> {
     let of = station.ok_or(10);
     let running = of.map(|station| station.running().map(u32::from));
     compared("the running job", input, running, state.running())?;
@@ -100,9 +95,8 @@ pub fn readers(
     let word = of.map(|station| station.waiting_word().into());
     compared("the waiting word", input, word, state.waiting_word())?;
     for resource in 0..=MAX_RESOURCES {
-        let ceiling = of.and_then(|station| {
-            if resource < station.free.len() { Ok(Some(station.ceiling(resource).into())) } else { Err(15) }
-        });
+        let ceiling =
+            of.and_then(|station| if resource < station.free.len() { Ok(Some(station.ceiling(resource).into())) } else { Err(15) });
         compared("a resource's ceiling", input, ceiling, state.ceiling(resource as u8))?;
     }
     for length in [memory_length, memory_length + 1, 0] {

@@ -75,13 +75,8 @@ fn split(bytes: &[u8]) -> Vec<Vec<u8>> {
 
 /// Random bytes, some of them behind a good beginning.
 pub fn bytes(random: &mut Random) -> Vec<u8> {
-    let beginning: &[u8] = random.of(&[
-        &[],
-        &[],
-        &[1, 0, 1, 1],
-        &[1, 0, 1, 1, 2, 0, 2, 255, 255],
-        &[1, 0, 1, 1, 2, 0, 2, 0, 9, 4, 0, 3, 1, 0, 1, 5, 0, 0],
-    ]);
+    let beginning: &[u8] =
+        random.of(&[&[], &[], &[1, 0, 1, 1], &[1, 0, 1, 1, 2, 0, 2, 255, 255], &[1, 0, 1, 1, 2, 0, 2, 0, 9, 4, 0, 3, 1, 0, 1, 5, 0, 0]]);
     let mut bytes = beginning.to_vec();
     let count = random.of(&[0, 1, 2, 3, 4, 10, 100]);
     let small = random.one_in(2);

@@ -71,11 +71,8 @@ fn log_of(random: &mut Random, table: &Table, mood: Mood, length: usize) -> Vec<
 fn fill(random: &mut Random, bytes: &mut Vec<u8>, length: usize) {
     while bytes.len() < length {
         let job = random.below(4) as u8;
-        let event = if (length - bytes.len()).is_multiple_of(4) {
-            Event::Arrive { job }
-        } else {
-            Event::Release { job, resource: 0, amount: 1 }
-        };
+        let event =
+            if (length - bytes.len()).is_multiple_of(4) { Event::Arrive { job } } else { Event::Release { job, resource: 0, amount: 1 } };
         bytes.extend(event_bytes(event));
     }
 }

@@ -50,11 +50,7 @@ pub fn ladder(random: &mut Random) -> Table {
 
 /// A table of the longest form: all jobs and resources.
 pub fn longest_table(random: &mut Random) -> Table {
-    let mut made = Table {
-        stack_size: u16::MAX,
-        units: vec![8; MAX_RESOURCES],
-        jobs: Vec::new(),
-    };
+    let mut made = Table { stack_size: u16::MAX, units: vec![8; MAX_RESOURCES], jobs: Vec::new() };
     for number in 0..MAX_JOBS {
         let needs = std::array::from_fn(|_| random.below(9) as u16);
         made.jobs.push(Job { level: 1 + 3 * number as u8, frame: 64, needs });

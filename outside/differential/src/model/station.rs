@@ -120,10 +120,7 @@ impl Station {
             return None;
         }
         self.waiting.remove(0);
-        self.stack.push(Started {
-            job: head,
-            held: [0; MAX_RESOURCES],
-        });
+        self.stack.push(Started { job: head, held: [0; MAX_RESOURCES] });
         self.ceiling = self.ceiling_now();
         Some(head)
     }

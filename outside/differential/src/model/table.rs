@@ -81,11 +81,7 @@ impl Table {
 
     /// The job that a field's value says; None if a number of it is outside its range.
     fn job(&self, value: &[u8]) -> Option<Job> {
-        let mut job = Job {
-            level: value[0],
-            frame: number(&value[1..3]),
-            needs: [0; MAX_RESOURCES],
-        };
+        let mut job = Job { level: value[0], frame: number(&value[1..3]), needs: [0; MAX_RESOURCES] };
         if job.level == 0 || job.frame == 0 {
             return None;
         }
@@ -102,11 +98,7 @@ impl Table {
 
 /// The table at the front of the input, and how many bytes it took.
 pub fn read_table(input: &[u8]) -> Result<(Table, usize), Refused> {
-    let mut table = Table {
-        stack_size: 0,
-        units: Vec::new(),
-        jobs: Vec::new(),
-    };
+    let mut table = Table { stack_size: 0, units: Vec::new(), jobs: Vec::new() };
     let mut place = 0;
     let mut fields = 0;
     loop {
