@@ -1,8 +1,8 @@
 #!/usr/bin/env python3
 """Puts faults into a copy of the model, one at a time, and sees that `differential` finds each.
 
-    URZALINDA_LIB=../../crates/driver/out/libdriver.a python3 outside/differential/faults.py [WORD]
-    python3 outside/differential/faults.py --program crates/replay/out/replay [WORD]
+    URZALINDA_LIB=../../crates/driver/out/libdriver.a python3 faults.py [WORD]
+    python3 faults.py --program ../../crates/replay/out/replay [WORD]
 
 With a WORD, only the faults whose name has it. A fault is one edit, whose old text stands in its file exactly once. The last line counts those
 found; the exit status is 1 if one was missed. Faults of what only the library's functions over states show are left out where there are none.
