@@ -1,11 +1,10 @@
 #!/usr/bin/env python3
 """Puts faults into a copy of the model, one at a time, and sees that `differential` finds each.
 
-    URZALINDA_LIB=../../crates/driver/out/libdriver.a python3 faults.py [WORD]
-    python3 faults.py --program ../../crates/replay/out/replay [WORD]
+    python3 faults.py [WORD]
 
 With a WORD, only the faults whose name has it. A fault is one edit, whose old text stands in its file exactly once. The last line counts those
-found; the exit status is 1 if one was missed. Faults of what only the library's functions over states show are left out where there are none.
+found; the exit status is 1 if one was missed. The library has to be built before (README.md beside this folder).
 """
 
 import os
@@ -74,10 +73,6 @@ FAULTS = [
     ("replays a byte less", REPLAY, "if input.len() > MOST_BYTES {", "if input.len() >= MOST_BYTES {"),
     ("counts a place from the first event", REPLAY, "Err(refused) => return put_refused(out, b\"events\", refused),", "Err(refused) => return put_refused(out, b\"events\", Refused { number: refused.number, place: refused.place - start }),"),
     ("prints upper-case digits", REPLAY, "0123456789abcdef", "0123456789ABCDEF"),
-]
-
-# These show in the functions over states alone.
-OF_STATES = [
     # In a state that was reached no head is due to start, and an acquire lowers no ceiling.
     ("tests after an acquire", STATION, "return Ok(None);", "return Ok(self.start_test());"),
     ("counts a need equal to the free units, of one resource", STATION, "job.needs[resource] > free);", "job.needs[resource] >= free);"),
@@ -103,14 +98,10 @@ def built(folder):
 def main():
     words = sys.argv[1:]
     options = ["--inputs", INPUTS, "--differences", "1"]
-    if words[:1] == ["--program"]:
-        options += ["--program", str(pathlib.Path(words[1]).resolve()), "--program-inputs", INPUTS]
-        words = words[2:]
-    if "URZALINDA_LIB" in os.environ:
-        os.environ["URZALINDA_LIB"] = ":".join(str(pathlib.Path(part).resolve()) for part in os.environ["URZALINDA_LIB"].split(":"))
     with tempfile.TemporaryDirectory() as folder:
         copy = pathlib.Path(folder) / "differential"
         shutil.copytree(HERE, copy, ignore=shutil.ignore_patterns("target"))
+        os.symlink(HERE.parent / "urzalinda", copy.parent / "urzalinda")
         sys.exit(0 if all_found(copy, options, words) else 1)
 
 
@@ -120,8 +111,7 @@ def all_found(copy, options, words):
     sound = subprocess.run([program, *options], capture_output=True, text=True)
     if sound.returncode:
         sys.exit("the model as it stands differs already:\n" + sound.stdout + sound.stderr)
-    faults = FAULTS + (OF_STATES if "events one at a time" in sound.stdout else [])
-    faults = [fault for fault in faults if all(word in fault[0] for word in words)]
+    faults = [fault for fault in FAULTS if all(word in fault[0] for word in words)]
     found = 0
     for name, file, old, new in faults:
         path = copy / "src" / file

@@ -8,8 +8,8 @@ fn main() {
     println!("cargo:rerun-if-env-changed=URZALINDA_LIB");
     let built = Path::new(env!("CARGO_MANIFEST_DIR")).join("../../crates/driver/out/libdriver.a");
     let named = env::var_os("URZALINDA_LIB").map_or(built, PathBuf::from);
-    let archive = fs::canonicalize(&named)
-        .unwrap_or_else(|error| panic!("{}: {error}. `rt lib` in crates/driver builds it", named.display()));
+    let archive =
+        fs::canonicalize(&named).unwrap_or_else(|error| panic!("{}: {error}. `rt lib` in crates/driver builds it", named.display()));
     println!("cargo:rerun-if-changed={}", archive.display());
     let (Some(folder), Some(name)) = (archive.parent(), library_name(&archive)) else {
         panic!("{}: no archive of the form libNAME.a", archive.display());
