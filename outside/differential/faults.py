@@ -123,8 +123,8 @@ def all_found(copy, options, words):
         path.write_text(text)
         run = subprocess.run([program, *options], capture_output=True, text=True)
         first = next((line for line in run.stdout.splitlines() if line.startswith("DIFFERENCE")), "")
-        found += run.returncode == 1
-        print(f"{'found ' if run.returncode == 1 else 'MISSED'} {name}: {first}", flush=True)
+        found += first != ""
+        print(f"{'found ' if first else 'MISSED'} {name}: {first}", flush=True)
     print(f"{found} of {len(faults)} faults found")
     return found == len(faults)
 

@@ -62,7 +62,7 @@ fn change(random: &mut Random, reached: &Station, bytes: &mut Vec<u8>) {
         return;
     }
     let depth = reached.stack.len();
-    match random.below(10) {
+    match random.below(11) {
         // Units held, of any started job.
         0..=4 if depth > 0 && !reached.free.is_empty() => {
             let place = random.below(depth);
@@ -87,7 +87,13 @@ fn change(random: &mut Random, reached: &Station, bytes: &mut Vec<u8>) {
             let at = random.below(20 + 19 * reached.table.jobs.len());
             bytes[at] ^= 1 << random.below(8);
         }
-        8 => {
+        // Nothing held any more: then a waiting job may be due to start, which no event leaves.
+        8 if depth > 0 => {
+            for place in 0..depth {
+                bytes[STACK + 17 * place + 1..STACK + 17 * (place + 1)].fill(0);
+            }
+        }
+        9 => {
             let at = random.below(STATE_BYTES);
             bytes[at] = random.byte();
         }
